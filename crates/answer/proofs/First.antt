@@ -1,0 +1,45 @@
+-- The laws of `first`: what it passes over, what decides it, and that 0 says that nothing refuses. Assumes nothing.
+use mathlib.Core.Path.{_≡_, refl, sym, _∙_}
+use mathlib.Core.Bool.{Bool, true, false, cond}
+use mathlib.Core.List.{List, [], _∷_, _++_}
+use Prim.Native.Nat.{ℕ, _<_}
+use native.Mathlib.Omega.{arith}
+use Rattle.answer.specs.First.{Refusal, _⇒_, first}
+
+-- none of the tests holds
+pub Passed : List Refusal → Type 0
+Passed [] = Unit {0}
+Passed (r ∷ rs) = (r .test ≡ false) × Passed rs
+
+-- each number says something: none is 0, which means done
+pub Told : List Refusal → Type 0
+Told [] = Unit {0}
+Told (r ∷ rs) = (0 < r .number) × Told rs
+
+-- tests that do not hold are passed over
+pub passed-over : (rs ts : List Refusal) → Passed rs → first (rs ++ ts) ≡ first ts
+unfolding Passed
+passed-over [] ts p = refl
+passed-over (r ∷ rs) ts (p, ps) = (λ i. cond (p i) (r .number) (first (rs ++ ts))) ∙ passed-over rs ts ps
+
+-- the first test that holds decides, whatever stands after it
+pub first-decides : (rs : List Refusal) (n : ℕ) (ts : List Refusal) → Passed rs → first (rs ++ (true ⇒ n ∷ ts)) ≡ n
+first-decides rs n ts = passed-over rs (true ⇒ n ∷ ts)
+
+-- where no test holds the answer is 0
+pub none-refuses : (rs : List Refusal) → Passed rs → first rs ≡ 0
+unfolding Passed
+none-refuses [] p = refl
+none-refuses (r ∷ rs) (p, ps) = (λ i. cond (p i) (r .number) (first rs)) ∙ none-refuses rs ps
+
+refused-or-passed : (t : Bool) (n m : ℕ) → 0 < n → cond t n m ≡ 0 → (t ≡ false) × (m ≡ 0)
+refused-or-passed true n m l e = absurd (omega arith)
+refused-or-passed false n m l e = (refl, e)
+
+-- and only there: an answer of 0 says that no test holds
+pub all-passed : (rs : List Refusal) → Told rs → first rs ≡ 0 → Passed rs
+unfolding Passed Told
+all-passed [] t e = tt
+all-passed (r ∷ rs) (t, ts) e =
+    let both = refused-or-passed (r .test) (r .number) (first rs) t e in
+    (both .0, all-passed rs ts (both .1))

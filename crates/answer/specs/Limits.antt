@@ -1,0 +1,18 @@
+-- The limits of document 01. They are ours, not the RFC's, and will change: no proof rests on their size. Assumes nothing.
+use Prim.Native.Nat.{ℕ}
+
+-- associated data, in bytes
+abbrev pub maxAd : ℕ
+maxAd = 256
+
+-- plaintext of a sealing
+abbrev pub maxPlaintext : ℕ
+maxPlaintext = 4096
+
+-- sealed part of an opening: the plaintext's limit and the tag's 16 bytes
+abbrev pub maxSealed : ℕ
+maxSealed = 4112
+
+-- log of a program
+abbrev pub maxLog : ℕ
+maxLog = 1048576
