@@ -1,0 +1,85 @@
+-- Byte strings cut into blocks: two strings one after the other, one block more, and zeros behind a string. Assumes nothing.
+use mathlib.Core.Path.{_≡_, refl, sym, ap, ap₂, _∙_, subst}
+use mathlib.Core.List.{List, [], _∷_, _++_}
+use Prim.Native.Nat.{ℕ, zero, suc, _+_, _-_, _*_, _/_, _%_, _≤_, _<_, _^_}
+use native.Mathlib.Nat.{zero-add, suc-add, lt-of-lt-of-le, pow-le-pow-right}
+use native.Mathlib.Omega.{arith}
+use lib.ListN.{length, take, drop, replicate, length-append, length-drop}
+use lib.Dec.{lit≤}
+use lib.Seq.{paste, take-length, take-append-le, drop-append-le, take-add, take-all, length-take-le}
+use Rattle.gf2.specs.Bytes.{number}
+use Rattle.gf2.proofs.Bytes.{Bytes, number-lt}
+use Rattle.polyval.specs.Blocks.{blocksN, blocks}
+
+blocksN-++ : (m n : ℕ) (s t : List ℕ) → length s ≡ m * 16 → blocksN (m + n) (s ++ t) ≡ blocksN m s ++ blocksN n t
+unfolding blocksN
+blocksN-++ zero n [] t e = ap (λ k. blocksN k t) (zero-add n)
+blocksN-++ zero n (x ∷ s) t e = absurd (omega arith)
+blocksN-++ (suc m) n s t e =
+    ap (λ k. blocksN k (s ++ t)) (suc-add m n)
+    ∙ ap₂ (λ b r. number b ∷ blocksN (m + n) r) (take-append-le 16 s t (omega arith)) (drop-append-le 16 s t (omega arith))
+    ∙ ap (λ bs. number (take 16 s) ∷ bs) (blocksN-++ m n (drop 16 s) t (length-drop 16 s ∙ omega arith))
+
+-- whole blocks, then any string
+pub blocks-++ : (s t : List ℕ) → length s % 16 ≡ 0 → blocks (s ++ t) ≡ blocks s ++ blocks t
+unfolding blocks
+blocks-++ s t whole =
+    let m : (length s + 15) / 16 * 16 ≡ length s = omega arith in
+    let n : (length s + length t + 15) / 16 ≡ (length s + 15) / 16 + (length t + 15) / 16 = omega arith in
+    ap (λ k. blocksN k (s ++ t)) (ap (λ k. (k + 15) / 16) (length-append s t) ∙ n)
+    ∙ blocksN-++ ((length s + 15) / 16) ((length t + 15) / 16) s t (sym m)
+
+pub blocks-none : blocks [] ≡ []
+unfolding blocks blocksN
+blocks-none = refl
+
+-- one block, whole or short
+pub blocks-one : (s : List ℕ) → 0 < length s → length s ≤ 16 → blocks s ≡ number s ∷ []
+unfolding blocks blocksN
+blocks-one s some few =
+    let one : (length s + 15) / 16 ≡ 1 = omega arith in
+    ap (λ k. blocksN k s) one ∙ ap (λ b. number b ∷ []) (take-all 16 s few)
+
+-- a part of k bytes from place i on, as code lends it
+pub length-part : (i k : ℕ) (s : List ℕ) → i + k ≤ length s → length (take (i + k - i) (drop i s)) ≡ k
+length-part i k s room =
+    let e : i + k - i ≡ k = omega arith in
+    ap (λ n. length (take n (drop i s))) e ∙ length-take-le k (drop i s) (rw length-drop (omega arith))
+
+-- and all that is left from place i on
+pub part-rest : (i : ℕ) (s : List ℕ) → take (length s - i) (drop i s) ≡ drop i s
+part-rest i s = take-all (length s - i) (drop i s) (rw length-drop (omega arith))
+
+-- a turn of a loop over whole blocks
+pub blocks-turn : (s : List ℕ) (i : ℕ) → i % 16 ≡ 0 → i + 16 ≤ length s → blocks (take (i + 16) s) ≡ blocks (take i s) ++ number (take 16 (drop i s)) ∷ []
+blocks-turn s i whole room =
+    let long : length (take i s) ≡ i = length-take-le i s (omega arith) in
+    let sixteen : length (take 16 (drop i s)) ≡ 16 = length-take-le 16 (drop i s) (rw length-drop (omega arith)) in
+    ap blocks (take-add i 16 s) ∙ blocks-++ (take i s) (take 16 (drop i s)) (ap (λ n. n % 16) long ∙ whole)
+    ∙ ap (λ bs. blocks (take i s) ++ bs) (blocks-one (take 16 (drop i s)) (omega arith) (omega arith))
+
+-- a block, whole or short, is an element
+pub block-lt : (s : List ℕ) → Bytes s → length s ≤ 16 → number s < 2 ^ 128
+block-lt s bytes few = lt-of-lt-of-le (number-lt s bytes) (subst (λ n. 256 ^ length s ≤ n) power (pow-le-pow-right (lit≤ tt) few))
+  where
+    power : 256 ^ 16 ≡ 2 ^ 128
+    power = refl
+
+-- zeros behind a string do not change its number
+pub number-zeros : (s : List ℕ) (k : ℕ) → number (s ++ replicate k 0) ≡ number s
+unfolding number
+number-zeros [] zero = refl
+number-zeros [] (suc k) = ap (λ n. 0 + n * 256) (number-zeros [] k)
+number-zeros (b ∷ s) k = ap (λ n. b + n * 256) (number-zeros s k)
+
+pub drop-zeros : (n k : ℕ) → drop n (replicate {A = ℕ} k 0) ≡ replicate (k - n) 0
+drop-zeros zero k = let e : k - 0 ≡ k = omega arith in ap (λ m. replicate {A = ℕ} m 0) (sym e)
+drop-zeros (suc n) zero = let e : 0 - suc n ≡ 0 = omega arith in ap (λ m. replicate {A = ℕ} m 0) (sym e)
+drop-zeros (suc n) (suc k) = let e : suc k - suc n ≡ k - n = omega arith in drop-zeros n k ∙ ap (λ m. replicate {A = ℕ} m 0) (sym e)
+
+-- a string stored at the front of zeros
+pub pasted-zeros : (s : List ℕ) → paste (replicate 16 0) 0 s (length s) ≡ s ++ replicate (16 - length s) 0
+pasted-zeros s = ap₂ _++_ (take-length s) (ap (λ n. drop n (replicate {A = ℕ} 16 0)) (zero-add (length s)) ∙ drop-zeros (length s) 16)
+
+pub number-pasted : (s : List ℕ) → number (paste (replicate 16 0) 0 s (length s)) ≡ number s
+number-pasted s = ap number (pasted-zeros s) ∙ number-zeros s (16 - length s)

@@ -1,0 +1,4 @@
+-- The laws that the proofs cite.
+pub mod Run
+pub mod Cut
+pub mod Absorb

@@ -1,0 +1,3 @@
+// POLYVAL (RFC 8452, section 3).
+pub mod block;
+pub mod soft;
