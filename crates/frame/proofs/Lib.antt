@@ -1,0 +1,3 @@
+-- Laws of the crate frame.
+pub mod Signs
+pub mod RoundTrip

@@ -1,0 +1,16 @@
+-- `frame::position::le32_bytes` meets its contract. Assumes nothing.
+use borrow.Author.Needs.{needs}
+use mathlib.Core.List.{[], _∷_}
+use native.Mathlib.Omega.{arith}
+use Rattle.gf2.specs.Bytes.{bytesOf}
+use Rattle.frame.proofs.Signs.{four-bytes}
+use Rattle.frame.proofs.position.le32_bytes.Statement.{statement}
+use Rattle.frame.proofs.position.le32_bytes.Tie as tie
+
+returns : tie.Need-returns
+returns c = four-bytes _ (c .fits .x .fits)
+
+pub le32-bytes-spec : {M : Type 1} → statement M
+le32-bytes-spec =
+    tie.close
+    (tie.spec (λ c. search needs) (λ c. search needs) (λ c. search needs) (λ c. search needs) returns)

@@ -1,0 +1,140 @@
+// A position: its four fields, its sixteen bytes, and the ranges of its fields. Nobody above this file
+// encodes a signed field. Assumes nothing.
+ghost use mathlib.Core.Path.{_≡_};
+ghost use mathlib.Core.List.{[], _∷_};
+ghost use Rattle.gf2.specs.Bytes.{number, bytesOf};
+ghost use Rattle.frame.specs.Signed.{signed, bitsOf};
+ghost use Rattle.frame.specs.Position.{within, inRange, positionOf, positionBytes};
+
+// The ranges of document 01, both ends included: latitude and longitude in 10^-7 degree, altitude in cm.
+pub const LAT_MIN: i32 = -900_000_000;
+
+pub const LAT_MAX: i32 = 900_000_000;
+
+pub const LON_MIN: i32 = -1_800_000_000;
+
+pub const LON_MAX: i32 = 1_800_000_000;
+
+pub const ALT_MIN: i32 = -50_000;
+
+pub const ALT_MAX: i32 = 1_000_000;
+
+// Where a person was, and when: time in seconds. Any four numbers are a Position; is_in_range says
+// whether document 01 lets it stand.
+pub struct Position {
+    pub lat: i32,
+    pub lon: i32,
+    pub alt: i32,
+    pub time: u32,
+}
+
+// Four bytes as a word, the lowest first.
+fn le32(a: u8, b: u8, c: u8, d: u8) -> u32
+    ensures { λ r. ⌜ r ≡ number (a ∷ b ∷ c ∷ d ∷ []) ⌝ }
+{
+    a as u32 + b as u32 * 0x100 + c as u32 * 0x1_0000 + d as u32 * 0x100_0000
+}
+
+// The word's four bytes, the lowest first.
+fn le32_bytes(x: u32) -> [u8; 4]
+    ensures { λ r. ⌜ r ≡ bytesOf 4 x ⌝ }
+{
+    [
+        (x % 0x100) as u8,
+        (x / 0x100 % 0x100) as u8,
+        (x / 0x1_0000 % 0x100) as u8,
+        (x / 0x100_0000) as u8,
+    ]
+}
+
+// The 32 bits of x as a signed number: two's complement.
+fn to_signed(x: u32) -> i32
+    ensures { λ r. ⌜ r ≡ signed x ⌝ }
+{
+    if x < 0x8000_0000 {
+        x as i32
+    } else {
+        -1 - (0xFFFF_FFFF - x) as i32
+    }
+}
+
+// The 32 bits of a signed number.
+fn to_bits(x: i32) -> u32
+    ensures { λ r. ⌜ r ≡ bitsOf x ⌝ }
+{
+    if x < 0 {
+        0xFFFF_FFFF - (-1 - x) as u32
+    } else {
+        x as u32
+    }
+}
+
+// A signed field from its four bytes.
+fn field(a: u8, b: u8, c: u8, d: u8) -> i32
+    ensures { λ r. ⌜ r ≡ signed (number (a ∷ b ∷ c ∷ d ∷ [])) ⌝ }
+{
+    to_signed(le32(a, b, c, d))
+}
+
+fn is_within(least: i32, most: i32, z: i32) -> bool
+    ensures { λ r. ⌜ r ≡ within least most z ⌝ }
+{
+    if least <= z { z <= most } else { false }
+}
+
+impl Position {
+    // The fields that sixteen bytes spell, in range or not.
+    pub fn from_bytes(b: [u8; 16]) -> Position
+        ensures { λ r. ⌜ r ≡ positionOf b ⌝ }
+    {
+        Position {
+            lat: field(b[0], b[1], b[2], b[3]),
+            lon: field(b[4], b[5], b[6], b[7]),
+            alt: field(b[8], b[9], b[10], b[11]),
+            time: le32(b[12], b[13], b[14], b[15]),
+        }
+    }
+
+    // The sixteen bytes that spell the fields.
+    pub fn to_bytes(self) -> [u8; 16]
+        ensures { λ r. ⌜ r ≡ positionBytes self ⌝ }
+    {
+        let a = le32_bytes(to_bits(self.lat));
+        let o = le32_bytes(to_bits(self.lon));
+        let h = le32_bytes(to_bits(self.alt));
+        let t = le32_bytes(self.time);
+        [
+            a[0],
+            a[1],
+            a[2],
+            a[3],
+            o[0],
+            o[1],
+            o[2],
+            o[3],
+            h[0],
+            h[1],
+            h[2],
+            h[3],
+            t[0],
+            t[1],
+            t[2],
+            t[3],
+        ]
+    }
+
+    // Whether latitude, longitude and altitude lie in their ranges. Time may be any.
+    pub fn is_in_range(self) -> bool
+        ensures { λ r. ⌜ r ≡ inRange self ⌝ }
+    {
+        if is_within(LAT_MIN, LAT_MAX, self.lat) {
+            if is_within(LON_MIN, LON_MAX, self.lon) {
+                is_within(ALT_MIN, ALT_MAX, self.alt)
+            } else {
+                false
+            }
+        } else {
+            false
+        }
+    }
+}
