@@ -1,0 +1,3 @@
+-- Laws that the functions' proofs share, and what the calls come to together.
+pub mod Laws
+pub mod Whole

@@ -1,0 +1,5 @@
+-- The definitions' examples and laws.
+pub mod Table
+pub mod Field
+pub mod Sbox
+mod Examples
