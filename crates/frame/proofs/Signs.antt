@@ -1,9 +1,10 @@
 -- The two's complement of 32 bits, as the code computes it. Assumes nothing.
-use Prim.Native.Nat.{ℕ, zero, suc, _-_, _/_, _%_, _≤_, _<_, _^_}
+use Prim.Native.Nat.{ℕ, zero, suc, _+_, _-_, _/_, _%_, _≤_, _<_, _^_}
 use mathlib.Core.List.{[], _∷_}
 use mathlib.Core.Path.{_≡_, refl, sym, ap, ap₂, _∙_, subst}
 use mathlib.Core.Bool.{Bool, true, false, cond}
 use native.Mathlib.Nat.{zero-add}
+use native.Mathlib.Numerals.{add-one}
 use native.Mathlib.Omega.{arith}
 use borrow.Author.Tests.{lt-ltb, le-ltb}
 use lib.IntN.{ℤ, pos, negsuc, _-ℤ_, natAbs}
@@ -70,6 +71,10 @@ module _ (z : ℤ) (f : SFits w32 z) (e : ltZ (toZ w32 (ofZ w32 z)) (pos 0) ≡ 
 
   pub neg-bits : 4294967295 - natAbs (toZ w32 (ofZ w32 (negsuc 0 -ℤ toZ w32 (ofZ w32 z)))) ≡ bitsOf z
   neg-bits = ap (λ (x : ℤ). 4294967295 - natAbs x) back ∙ sym (ap bitsOf (neg z f e .is))
+
+  -- how far it is from 0: one more than what the code casts
+  pub neg-magnitude : natAbs (toZ w32 (ofZ w32 (negsuc 0 -ℤ toZ w32 (ofZ w32 z)))) + 1 ≡ natAbs z
+  neg-magnitude = let n = neg z f e in ap (λ (x : ℤ). natAbs x + 1) back ∙ add-one (n .k) ∙ sym (ap natAbs (n .is))
 
 -- the bits of another number are the number
 nonneg : (z : ℤ) → SFits w32 z → ltZ (toZ w32 (ofZ w32 z)) (pos 0) ≡ false → (n : ℕ) × ((z ≡ pos n) × (n < 2 ^ 31))
