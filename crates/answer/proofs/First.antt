@@ -1,5 +1,5 @@
 -- The laws of `first`: what it passes over, what decides it, and that 0 says that nothing refuses. Assumes nothing.
-use mathlib.Core.Path.{_≡_, refl, sym, _∙_}
+use mathlib.Core.Path.{_≡_, refl, _∙_}
 use mathlib.Core.Bool.{Bool, true, false, cond}
 use mathlib.Core.List.{List, [], _∷_, _++_}
 use Prim.Native.Nat.{ℕ, _<_}
@@ -7,12 +7,12 @@ use native.Mathlib.Omega.{arith}
 use Rattle.answer.specs.First.{Refusal, _⇒_, first}
 
 -- none of the tests holds
-pub Passed : List Refusal → Type 0
+unfoldable pub Passed : List Refusal → Type 0
 Passed [] = Unit {0}
 Passed (r ∷ rs) = (r .test ≡ false) × Passed rs
 
 -- each number says something: none is 0, which means done
-pub Told : List Refusal → Type 0
+unfoldable pub Told : List Refusal → Type 0
 Told [] = Unit {0}
 Told (r ∷ rs) = (0 < r .number) × Told rs
 
@@ -43,3 +43,12 @@ all-passed [] t e = tt
 all-passed (r ∷ rs) (t, ts) e =
     let both = refused-or-passed (r .test) (r .number) (first rs) t e in
     (both .0, all-passed rs ts (both .1))
+
+after-refusal : (t : Bool) (n m k : ℕ) → ((m ≡ 0 → ⊥) → k ≡ m) → (cond t n m ≡ 0 → ⊥) → cond t n k ≡ cond t n m
+after-refusal true n m k f h = refl
+after-refusal false n m k f h = f h
+
+-- where a test refuses, what stands after the list plays no part
+pub refused-before : (rs ts : List Refusal) → (first rs ≡ 0 → ⊥) → first (rs ++ ts) ≡ first rs
+refused-before [] ts h = absurd (h refl)
+refused-before (r ∷ rs) ts h = after-refusal (r .test) (r .number) (first rs) (first (rs ++ ts)) (refused-before rs ts) h
