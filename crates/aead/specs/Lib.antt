@@ -1,0 +1,5 @@
+-- What every mode of sealing shares: byte strings, the key stream, a sealed part, the answers.
+pub mod Bytes
+pub mod Stream
+pub mod Mode
+pub mod Calls

@@ -1,0 +1,47 @@
+// Byte strings combined, copied and compared.
+ghost use mathlib.Core.Path.{_≡_};
+ghost use Prim.Native.Nat.{min};
+ghost use Rattle.aead.specs.Bytes.{xorBytes, copied, sameBytes};
+
+fn shorter(a: usize, b: usize) -> usize
+    ensures { λ r. ⌜ r ≡ min a b ⌝ }
+{
+    if a < b { a } else { b }
+}
+
+// Adds pad to the front of text, as far as both go. The rest of text stays.
+pub fn xor_into(pad: &[u8], text: &mut [u8])
+    ensures { λ _. ⌜ now (text .exit) ≡ xorBytes (now (text .entry)) (now (pad .entry)) ⌝ }
+{
+    let n = shorter(pad.len(), text.len());
+    let mut i = 0;
+    while i < n {
+        text[i] = text[i] ^ pad[i];
+        i += 1;
+    }
+}
+
+// Copies src over the front of dst, as much of it as fits. The rest of dst stays.
+pub fn copy(src: &[u8], dst: &mut [u8])
+    ensures { λ _. ⌜ now (dst .exit) ≡ copied (now (src .entry)) (now (dst .entry)) ⌝ }
+{
+    let n = shorter(src.len(), dst.len());
+    let mut i = 0;
+    while i < n {
+        dst[i] = src[i];
+        i += 1;
+    }
+}
+
+// Compares all 16 bytes, whatever the first ones are: how long it takes says nothing of where two tags differ.
+pub fn same_tag(a: [u8; 16], b: [u8; 16]) -> bool
+    ensures { λ r. ⌜ r ≡ sameBytes a b ⌝ }
+{
+    let mut differences: u8 = 0;
+    let mut i = 0;
+    while i < 16 {
+        differences = differences | (a[i] ^ b[i]);
+        i += 1;
+    }
+    differences == 0
+}
