@@ -1,3 +1,6 @@
 -- Laws of the crate frame.
 pub mod Signs
 pub mod RoundTrip
+pub mod Fronts
+pub mod Whole
+pub mod Scans

@@ -1,8 +1,5 @@
 -- `frame::position::le32_bytes` meets its contract. Assumes nothing.
 use borrow.Author.Needs.{needs}
-use mathlib.Core.List.{[], _∷_}
-use native.Mathlib.Omega.{arith}
-use Rattle.gf2.specs.Bytes.{bytesOf}
 use Rattle.frame.proofs.Signs.{four-bytes}
 use Rattle.frame.proofs.position.le32_bytes.Statement.{statement}
 use Rattle.frame.proofs.position.le32_bytes.Tie as tie

@@ -1,6 +1,5 @@
 -- `frame::position::Position::is_in_range` meets its contract. Assumes nothing.
 use mathlib.Core.Path.{_≡_, _∙_, sym}
-use mathlib.Core.Bool.{Bool}
 use borrow.Author.Needs.{needs}
 use Rattle.frame.specs.Position.{latMin, latMax, lonMin, lonMax, altMin, altMax, within}
 use Rattle.frame.proofs.Signs.{of-bits}

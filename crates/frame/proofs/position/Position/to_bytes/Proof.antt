@@ -1,7 +1,7 @@
 -- `frame::position::Position::to_bytes` meets its contract. Assumes nothing.
 use mir.Facts.{toZ-ofZ}
 use mir.Syntax.{w32}
-use mathlib.Core.Path.{_≡_, ap, _∙_}
+use mathlib.Core.Path.{ap, _∙_}
 use mathlib.Core.List.{List, _++_}
 use Prim.Native.Nat.{ℕ}
 use borrow.Author.Needs.{needs}
