@@ -1,0 +1,155 @@
+"""Requests to seal and to open."""
+
+import limits
+import sealing
+from values import Group, SHORT_LENGTHS, damaged_everywhere, line, some_bytes, some_length, subsets
+
+# RFC 8452 appendix C.3: the two tags from which the counter wraps within the text.
+COUNTER_WRAPS = [
+    ("000000000000000000000000000000004db923dc793ee6497c76dcc03a98e108",
+     "f3f80f2cf0cb2dd9c5984fcda908456cc537703b5ba70324a6793a7bf218d3eaffffffff000000000000000000000000"),
+    ("eb3640277c7ffd1303c7a542d02d3e4c0000000000000000",
+     "18ce4f0b8cb4d0cac65fea8f79257b20888e53e72299e56dffffffff000000000000000000000000"),
+]
+
+WRONG_KEY_LENGTHS = (0, 1, 15, 17, 24, 31, 33, 64)
+WRONG_NONCE_LENGTHS = (0, 1, 11, 13, 16)
+
+
+def some_cipher_key(rng):
+    return rng.randbytes(rng.choice(limits.SEALING_KEYS))
+
+
+def seal_line(key, nonce, data, plaintext, room):
+    return line("seal", key, nonce, data, plaintext, room)
+
+
+def open_line(key, nonce, data, sealed, room):
+    return line("open", key, nonce, data, sealed, room)
+
+
+def sealed_part(key, nonce, data, plaintext):
+    """What sealing gives where no limit of ours stands in the way, so that parts over a limit can be made too."""
+    hash_key, cipher_key = sealing.derive(key, nonce)
+    tag = sealing.tag_of(hash_key, cipher_key, nonce, data, plaintext)
+    return sealing.counter_mode(cipher_key, tag, plaintext) + tag
+
+
+def around(*numbers):
+    return [n + step for n in numbers for step in (-1, 0, 1)]
+
+
+def text_lengths():
+    return [*SHORT_LENGTHS, 255, 256, 257, *around(limits.MAX_PLAINTEXT)]
+
+
+def seal_edges(rng):
+    nonce = rng.randbytes(12)
+    for size in limits.SEALING_KEYS:
+        key = rng.randbytes(size)
+        for n in text_lengths():
+            yield seal_line(key, nonce, rng.randbytes(n % 20), rng.randbytes(n), n + 16 + n % 3)
+        for n in (*SHORT_LENGTHS, *around(limits.MAX_DATA)):
+            yield seal_line(key, nonce, rng.randbytes(n), rng.randbytes(n % 20), 40)
+        for n in (0, 1, 16, 20):
+            for room in (0, n, *around(n + 16), 70_000):
+                yield seal_line(key, nonce, b"", rng.randbytes(n), room)
+    for n in range(67):
+        yield seal_line(rng.randbytes(n), nonce, b"", b"", 16)
+        yield seal_line(rng.randbytes(16), rng.randbytes(n), b"", b"", 16)
+    yield from seal_refusals(rng)
+    for text, _ in COUNTER_WRAPS:
+        yield seal_line(bytes(32), bytes(12), b"", bytes.fromhex(text), 64)
+
+
+def seal_refusals(rng):
+    """Every set of faults at once: 1, 2, 4, 5, 7."""
+    for faults in subsets(("key", "nonce", "data", "text", "room")):
+        plaintext = rng.randbytes(limits.MAX_PLAINTEXT + 1 if "text" in faults else rng.randrange(1, 40))
+        yield seal_line(
+            rng.randbytes(rng.choice(WRONG_KEY_LENGTHS)) if "key" in faults else some_cipher_key(rng),
+            rng.randbytes(rng.choice(WRONG_NONCE_LENGTHS)) if "nonce" in faults else rng.randbytes(12),
+            rng.randbytes(limits.MAX_DATA + 1) if "data" in faults else rng.randbytes(3),
+            plaintext,
+            len(plaintext) + (15 if "room" in faults else 16))
+
+
+def seal_draw(rng):
+    plaintext = some_bytes(rng, 400)
+    data = rng.randbytes(some_length(rng, limits.MAX_DATA + 4))
+    room = rng.choice([len(plaintext) + 16, len(plaintext) + 16 + rng.randrange(40), rng.randrange(200)])
+    return seal_line(some_cipher_key(rng), rng.randbytes(12), data, plaintext, room)
+
+
+def open_edges(rng):
+    for size in limits.SEALING_KEYS:
+        key, nonce = rng.randbytes(size), rng.randbytes(12)
+        for n in text_lengths():
+            data = rng.randbytes(n % 20)
+            yield open_line(key, nonce, data, sealed_part(key, nonce, data, rng.randbytes(n)), n + n % 3)
+        yield from damaged_openings(key, nonce, rng)
+        for n in (0, 1, 16, 20):
+            part = sealed_part(key, nonce, b"", rng.randbytes(n))
+            for room in (*range(n), n, n + 1, 70_000):
+                yield open_line(key, nonce, b"", part, room)
+        for n in (*SHORT_LENGTHS, *around(limits.MAX_DATA)):
+            data = rng.randbytes(n)
+            yield open_line(key, nonce, data, sealed_part(key, nonce, data, b"seen"), 4)
+    yield from open_refusals(rng)
+    for _, sealed in COUNTER_WRAPS:
+        yield open_line(bytes(32), bytes(12), b"", bytes.fromhex(sealed), 40)
+
+
+def damaged_openings(key, nonce, rng):
+    """Every byte of all that goes in damaged, and the sealed part cut and prolonged everywhere."""
+    data, plaintext = rng.randbytes(9), rng.randbytes(37)
+    part = sealed_part(key, nonce, data, plaintext)
+    room = len(plaintext)
+    for bad in damaged_everywhere(part, rng):
+        yield open_line(key, nonce, data, bad, room)
+    for bad in damaged_everywhere(data, rng):
+        yield open_line(key, nonce, bad, part, room)
+    for bad in damaged_everywhere(nonce, rng):
+        yield open_line(key, bad, data, part, room)
+    for bad in damaged_everywhere(key, rng):
+        yield open_line(bad, nonce, data, part, room)
+    for n in range(len(part)):
+        yield open_line(key, nonce, data, part[:n], room)
+    yield open_line(key, nonce, data, part + b"\0", room + 1)
+    yield open_line(key, nonce, data + b"\0", part, room)
+
+
+def open_refusals(rng):
+    """Every set of faults at once: 1, 2, 4, 6, 5, 7, 8. A part cannot be too short and too long."""
+    for faults in subsets(("key", "nonce", "data", "short", "long", "room", "tag")):
+        if {"short", "long"} <= faults:
+            continue
+        key, nonce, data = some_cipher_key(rng), rng.randbytes(12), rng.randbytes(3)
+        if "data" in faults:
+            data = rng.randbytes(limits.MAX_DATA + 1)
+        part = sealed_part(key, nonce, data, rng.randbytes(limits.MAX_PLAINTEXT + 1 if "long" in faults else 5))
+        if "tag" in faults:
+            part = part[:-1] + bytes([part[-1] ^ 1])
+        if "short" in faults:
+            part = part[:15]
+        yield open_line(
+            rng.randbytes(rng.choice(WRONG_KEY_LENGTHS)) if "key" in faults else key,
+            rng.randbytes(rng.choice(WRONG_NONCE_LENGTHS)) if "nonce" in faults else nonce,
+            data,
+            part,
+            max(0, len(part) - (17 if "room" in faults else 16)))
+
+
+def open_draw(rng):
+    key, nonce, data = some_cipher_key(rng), rng.randbytes(12), rng.randbytes(some_length(rng, limits.MAX_DATA))
+    part = sealed_part(key, nonce, data, some_bytes(rng, 400))
+    if rng.random() < 0.3:
+        part = rng.choice(damaged_everywhere(part, rng))
+    room = len(part) - 16 + (rng.randrange(-3, 40) if rng.random() < 0.3 else 0)
+    return open_line(key, nonce, data, part, max(0, room))
+
+
+GROUPS = [
+    Group("seal", seal_edges, seal_draw),
+    Group("open", open_edges, open_draw),
+]
