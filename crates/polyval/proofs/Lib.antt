@@ -2,3 +2,5 @@
 pub mod Run
 pub mod Cut
 pub mod Absorb
+pub mod Powers
+pub mod Check

@@ -1,3 +1,4 @@
 -- What the contracts cite.
 pub mod Machine
 pub mod Blocks
+pub mod Key

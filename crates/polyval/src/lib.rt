@@ -1,3 +1,4 @@
 // POLYVAL (RFC 8452, section 3).
 pub mod block;
+pub mod key;
 pub mod soft;
