@@ -2,7 +2,7 @@
 use mathlib.Core.Path.{_≡_, refl, _∙_}
 use mathlib.Core.Bool.{Bool, true, false, cond}
 use mathlib.Core.List.{List, [], _∷_, _++_}
-use Prim.Native.Nat.{ℕ, _<_}
+use Prim.Native.Nat.{ℕ, _≤_, _<_}
 use native.Mathlib.Omega.{arith}
 use Rattle.answer.specs.First.{Refusal, _⇒_, first}
 
@@ -52,3 +52,18 @@ after-refusal false n m k f h = f h
 pub refused-before : (rs ts : List Refusal) → (first rs ≡ 0 → ⊥) → first (rs ++ ts) ≡ first rs
 refused-before [] ts h = absurd (h refl)
 refused-before (r ∷ rs) ts h = after-refusal (r .test) (r .number) (first rs) (first (rs ++ ts)) (refused-before rs ts) h
+
+-- every number of the list lies between two
+unfoldable pub Between : (lo hi : ℕ) → List Refusal → Type 0
+Between lo hi [] = Unit {0}
+Between lo hi (r ∷ rs) = ((lo ≤ r .number) × (r .number ≤ hi)) × Between lo hi rs
+
+one-of : (t : Bool) (n m lo hi : ℕ) → (lo ≤ n) × (n ≤ hi) → ((m ≡ 0 → ⊥) → (lo ≤ m) × (m ≤ hi)) → (cond t n m ≡ 0 → ⊥) → (lo ≤ cond t n m) × (cond t n m ≤ hi)
+one-of true n m lo hi b f h = b
+one-of false n m lo hi b f h = f h
+
+-- and so does an answer that is not 0
+pub between : (lo hi : ℕ) (rs : List Refusal) → Between lo hi rs → (first rs ≡ 0 → ⊥) → (lo ≤ first rs) × (first rs ≤ hi)
+unfolding Between
+between lo hi [] b h = absurd (h refl)
+between lo hi (r ∷ rs) (b, bs) h = one-of (r .test) (r .number) (first rs) lo hi b (between lo hi rs bs) h
