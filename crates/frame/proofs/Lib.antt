@@ -4,3 +4,6 @@ pub mod RoundTrip
 pub mod Fronts
 pub mod Whole
 pub mod Scans
+pub mod Longest
+pub mod NoCutFrame
+pub mod Cases

@@ -2,19 +2,18 @@
 -- its last byte it is cut. Assumes nothing.
 use Prim.Native.Nat.{ℕ, _+_, _*_, _≤_, _<_}
 use mathlib.Core.Path.{_≡_, refl, sym, ap, ap₂, _∙_}
-use mathlib.Core.List.{List, [], _∷_, _++_}
-use mathlib.Core.Bool.{Bool, true, false, not, cond, _&&_}
+use mathlib.Core.List.{List, _++_}
+use mathlib.Core.Bool.{Bool, true, false, cond, _&&_}
 use native.Mathlib.Omega.{arith}
 use borrow.Author.Tests.{ltb-true, ltb-false, leb-true, eqb-true, not-false}
 use lib.Dec.{eqb, leb, ltb}
 use lib.ListN.{length, getD, take, length-append, List·getD-append}
 use lib.Seq.{length-take-le, getD-take}
-use Rattle.answer.specs.Answers.{done, notAFrame, unknownKind, lengthForKind, cutShort}
-use Rattle.answer.specs.First.{Refusal, _⇒_}
+use Rattle.answer.specs.Answers.{done, cutShort}
 use Rattle.answer.proofs.First.{Passed, Told, all-passed}
 use Rattle.frame.specs.declared.Front.the-variants.{Whole, Stop}
 use Rattle.frame.specs.Kinds.{position, text, checkIn, isKnown, isAllowed, maxFramePlaintext}
-use Rattle.frame.specs.Front.{mark, kindOf, sealedLen, takenOf, lacks, stopOf, frontOf}
+use Rattle.frame.specs.Front.{mark, kindOf, sealedLen, takenOf, checks, stopOf, frontOf}
 use Rattle.frame.proofs.Fronts.{no-mark, no-kind, no-length, no-end, whole}
 
 -- what a whole frame's bytes say
@@ -36,15 +35,10 @@ picked n k t kind taken e = by (eqb n done) refl e
 
 -- they are what the tests ask
 pub is-whole : (s : List ℕ) (kind taken : ℕ) → frontOf s ≡ Whole kind taken → IsWhole s kind taken
-unfolding frontOf stopOf Passed Told
+unfolding frontOf checks Passed Told
 is-whole s kind taken e =
     let p = picked (stopOf s) (kindOf s) (takenOf s) kind taken e in
-    let rs : List Refusal =
-    lacks 1 s ∷ not (eqb (getD s 0 0) mark) ⇒ notAFrame
-    ∷ lacks 2 s ∷ not (isKnown (kindOf s)) ⇒ unknownKind
-    ∷ lacks 4 s ∷ not (isAllowed (kindOf s) (sealedLen s)) ⇒ lengthForKind
-    ∷ lacks (takenOf s) s ∷ [] in
-    let a = all-passed rs (omega arith, (omega arith, (omega arith, (omega arith, (omega arith, (omega arith, (omega arith, tt))))))) (p .0) in
+    let a = all-passed (checks s) (omega arith, (omega arith, (omega arith, (omega arith, (omega arith, (omega arith, (omega arith, tt))))))) (p .0) in
     let k = p .1 in
     let t = p .2 in
     record {

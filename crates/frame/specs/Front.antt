@@ -31,14 +31,15 @@ takenOf s = 16 + sealedLen s
 abbrev pub lacks : ℕ → List ℕ → Refusal
 lacks n s = ltb (length s) n ⇒ cutShort
 
+-- the checks of a frame's front, in document 01's order
+unfoldable pub checks : List ℕ → List Refusal
+checks s =
+    lacks 1 s ∷ not (eqb (getD s 0 0) mark) ⇒ notAFrame ∷ lacks 2 s ∷ not (isKnown (kindOf s)) ⇒ unknownKind ∷ lacks 4 s
+    ∷ not (isAllowed (kindOf s) (sealedLen s)) ⇒ lengthForKind ∷ lacks (takenOf s) s ∷ []
+
 -- why no whole frame stands at the front of s; 0 where one does
-unfoldable pub stopOf : List ℕ → ℕ
-stopOf s =
-    first
-    (lacks 1 s ∷ not (eqb (getD s 0 0) mark) ⇒ notAFrame
-    ∷ lacks 2 s ∷ not (isKnown (kindOf s)) ⇒ unknownKind
-    ∷ lacks 4 s ∷ not (isAllowed (kindOf s) (sealedLen s)) ⇒ lengthForKind
-    ∷ lacks (takenOf s) s ∷ [])
+abbrev pub stopOf : List ℕ → ℕ
+stopOf s = first (checks s)
 
 -- the frame's kind and the bytes that it takes, or the reason
 unfoldable pub frontOf : List ℕ → Front
