@@ -2,6 +2,7 @@
 pub mod Xor
 pub mod Copy
 pub mod Same
+pub mod Ciphers
 pub mod Stream
 pub mod Modes
 pub mod Refusals
