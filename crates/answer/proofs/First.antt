@@ -4,7 +4,9 @@ use mathlib.Core.Bool.{Bool, true, false, cond}
 use mathlib.Core.List.{List, [], _∷_, _++_}
 use Prim.Native.Nat.{ℕ, _≤_, _<_}
 use native.Mathlib.Omega.{arith}
-use Rattle.answer.specs.First.{Refusal, _⇒_, first}
+use borrow.Author.Tests.{eq-eqb, ne-eqb, eqb-true, eqb-false}
+use lib.Dec.{eqb}
+use Rattle.answer.specs.First.{Refusal, _⇒_, first, _then_}
 
 -- none of the tests holds
 unfoldable pub Passed : List Refusal → Type 0
@@ -67,3 +69,19 @@ pub between : (lo hi : ℕ) (rs : List Refusal) → Between lo hi rs → (first 
 unfolding Between
 between lo hi [] b h = absurd (h refl)
 between lo hi (r ∷ rs) (b, bs) h = one-of (r .test) (r .number) (first rs) lo hi b (between lo hi rs bs) h
+
+-- what is asked after a refusal plays no part
+pub then-refused : (a b : ℕ) → (a ≡ 0 → ⊥) → a then b ≡ a
+then-refused a b h = rw (ne-eqb a 0 h)
+
+-- what has passed is passed over
+pub then-passed : (a b : ℕ) → a ≡ 0 → a then b ≡ b
+then-passed a b e = rw (eq-eqb a 0 e)
+
+-- 0 says that neither refuses
+pub both-done : (a b : ℕ) → a then b ≡ 0 → (a ≡ 0) × (b ≡ 0)
+both-done a b e = by-test (eqb a 0) refl e
+  where
+    by-test : (t : Bool) → eqb a 0 ≡ t → cond t b a ≡ 0 → (a ≡ 0) × (b ≡ 0)
+    by-test true h e = (eqb-true a 0 h, e)
+    by-test false h e = absurd (eqb-false a 0 h e)

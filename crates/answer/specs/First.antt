@@ -2,6 +2,7 @@
 use Prim.Native.Nat.{ℕ}
 use mathlib.Core.Bool.{Bool, cond}
 use mathlib.Core.List.{List, [], _∷_}
+use lib.Dec.{eqb}
 
 -- a reason to refuse: a test, and the number that answers where it holds
 pub record Refusal : Type 0 where
@@ -16,3 +17,8 @@ t ⇒ n = record { test = t; number = n }
 abbrev pub first : List Refusal → ℕ
 first [] = 0
 first (r ∷ rs) = cond (r .test) (r .number) (first rs)
+
+-- "9, 10, 11, 12, then opening, then 13": one call's order after another's. The first that refuses answers
+infixr 60 _then_
+abbrev pub _then_ : ℕ → ℕ → ℕ
+a then b = cond (eqb a 0) b a
