@@ -1,8 +1,8 @@
 """Requests on hash records: start, feeds, finish, reset, join; and GHASH."""
 
 from values import (Group, ONES, PENDING_COUNTS, ROUTES, SHORT_LENGTHS, SPECIAL_ELEMENTS, UNIT, ZERO, altered_keys,
-                    damaged_everywhere, flipped, key_bytes, line, record, some_bytes, some_element, some_key,
-                    some_record)
+                    damaged_everywhere, flipped, key_bytes, line, record, some_bytes, some_count, some_element,
+                    some_key, some_record)
 
 
 def start_edges(rng):
@@ -27,7 +27,7 @@ def altered_records(rng):
 def feed_group(name):
     def edges(rng):
         for route in ROUTES:
-            for n in SHORT_LENGTHS:
+            for n in (*SHORT_LENGTHS, *range(80, 336, 16)):
                 right = record(key_bytes(rng.randbytes(16)), rng.randbytes(16), rng.randbytes(16))
                 yield line(name, route, right, rng.randbytes(n))
             for count in PENDING_COUNTS:
@@ -40,8 +40,12 @@ def feed_group(name):
                 yield line(name, route, record(key_bytes(h)), rng.randbytes(16 * rng.randrange(1, 10)))
 
     def draw(rng):
-        data = rng.randbytes(16 * rng.randrange(20)) if rng.random() < 0.5 else some_bytes(rng, 640)
-        return line(name, rng.choice(ROUTES), some_record(rng), data)
+        """Half on the route that has groups of four; mostly with nothing pending, which two of the feeds refuse."""
+        route = rng.choice([*ROUTES, "rf"])
+        count = 0 if name != "piece" and rng.random() < 0.9 else some_count(rng)
+        stored = record(some_key(rng), some_element(rng), rng.randbytes(16), count)
+        data = rng.randbytes(16 * rng.randrange(20)) if rng.random() < 0.7 else some_bytes(rng, 640)
+        return line(name, route, stored, data)
     return Group(name, edges, draw)
 
 
