@@ -3,8 +3,8 @@ use mathlib.Core.Path.{_≡_, sym, ap, _∙_}
 use mathlib.Core.List.{List, [], _∷_, _++_}
 use Prim.Native.Nat.{ℕ, _+_, _-_, _%_, _^_, _<_, _≤_}
 use native.Mathlib.Omega.{arith}
-use lib.ListN.{length, take, drop, take-append-drop, length-drop}
-use lib.Seq.{length-take-le}
+use lib.ListN.{length, take, drop, take-append-drop, length-drop, drop-of-length-le}
+use lib.Seq.{length-take-le, drop-drop}
 use Rattle.gf2.specs.Bytes.{number}
 use Rattle.field.specs.Element.{value, element}
 use Rattle.field.proofs.Element.{value-of}
@@ -12,6 +12,7 @@ use Rattle.field.specs.declared.field_element.FieldElement.{FieldElement}
 use Rattle.polyval.specs.Machine.{step, run}
 use Rattle.polyval.specs.Blocks.{blocks}
 use Rattle.polyval.proofs.Run.{run-lt, run-++}
+use Rattle.polyval.proofs.Parts.{blocks-cons}
 use Rattle.polyval.proofs.Cut.{blocks-++, blocks-one, blocks-turn, blocks-none}
 
 module _ (h s₀ : ℕ) (s₀-lt : s₀ < 2 ^ 128) where
@@ -43,3 +44,13 @@ module _ (h s₀ : ℕ) (s₀-lt : s₀ < 2 ^ 128) where
 pub absorb-none : (h : ℕ) (a : FieldElement) → a ≡ element (value a) → a ≡ element (run h (value a) (blocks []))
 unfolding run
 absorb-none h a e = e ∙ ap (λ xs. element (run h (value a) xs)) (sym blocks-none)
+
+-- the same, seen from what is left: one block of it
+pub rest-turn : (h a : ℕ) (s : List ℕ) (i : ℕ) → i < length s → run h a (blocks (drop i s)) ≡ run h (step h a (number (take 16 (drop i s)))) (blocks (drop (i + 16) s))
+unfolding run
+rest-turn h a s i some =
+    ap (run h a) (blocks-cons (drop i s) (rw length-drop (omega arith)) ∙ ap (λ t. number (take 16 (drop i s)) ∷ blocks t) (drop-drop 16 i s))
+
+pub rest-none : (h a : ℕ) (s : List ℕ) (i : ℕ) → length s ≤ i → run h a (blocks (drop i s)) ≡ a
+unfolding run
+rest-none h a s i l = ap (run h a) (ap blocks (drop-of-length-le s {i = i} l) ∙ blocks-none)

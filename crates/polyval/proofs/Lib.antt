@@ -1,6 +1,9 @@
 -- The laws that the proofs cite.
 pub mod Run
 pub mod Cut
+pub mod Parts
 pub mod Absorb
 pub mod Powers
 pub mod Check
+pub mod Range
+pub mod Groups

@@ -2,3 +2,5 @@
 pub mod Machine
 pub mod Blocks
 pub mod Key
+pub mod Formulas
+pub mod Routes

@@ -1,8 +1,8 @@
 // Blocks of 16 bytes: a part stored in one, and a part of a message read as one.
 use field::FieldElement;
 ghost use mathlib.Core.Path.{_≡_};
-ghost use Prim.Native.Nat.{_+_, _≤_};
-ghost use lib.ListN.{length};
+ghost use Prim.Native.Nat.{_+_, _*_, _^_, _<_, _≤_, min};
+ghost use lib.ListN.{length, take, drop};
 ghost use lib.Seq.{paste};
 ghost use Rattle.gf2.specs.Bytes.{number};
 ghost use Rattle.field.specs.Element.{value};
@@ -27,4 +27,25 @@ pub(crate) fn block_of(s: &[u8]) -> FieldElement
     ensures { λ r. ⌜ value r ≡ number (now (s .entry)) ⌝ }
 {
     FieldElement::from_bytes(pasted([0u8; 16], 0, s))
+}
+
+// Where n blocks from place i on end: there, or at the end of s.
+pub(crate) fn end_of(s: &[u8], i: usize, n: usize) -> usize
+    requires { ⌜ (i ≤ length (now s)) × (n < 2 ^ 60) ⌝ }
+    ensures { λ r. ⌜ r ≡ min (i + n * 16) (length (now (s .entry))) ⌝ }
+{
+    if s.len() - i < n * 16 {
+        s.len()
+    } else {
+        i + n * 16
+    }
+}
+
+// The block at place i, which may be short.
+pub(crate) fn block_at(s: &[u8], i: usize) -> FieldElement
+    requires { ⌜ i ≤ length (now s) ⌝ }
+    ensures { λ r. ⌜ value r ≡ number (take 16 (drop i (now (s .entry)))) ⌝ }
+{
+    let end = end_of(s, i, 1);
+    block_of(&s[i..end])
 }

@@ -1,4 +1,4 @@
-// The plain route: one block after the other through dot.
+// The plain routes: one block after the other through dot, by 64-bit and by 32-bit limbs (soft.rs).
 use crate::block;
 use field::FieldElement;
 ghost use mathlib.Core.Path.{_≡_};
@@ -40,4 +40,17 @@ pub fn absorb(h: FieldElement, acc: FieldElement, s: &[u8]) -> FieldElement
     } else {
         step(h, a, block::block_of(&s[whole..]))
     }
+}
+
+// The same by 32-bit limbs.
+pub fn absorb32(h: FieldElement, acc: FieldElement, s: &[u8]) -> FieldElement
+    ensures { λ r. ⌜ r ≡ element (run (value h) (value acc) (blocks (now (s .entry)))) ⌝ }
+{
+    let mut a = acc;
+    let mut i = 0;
+    while i < s.len() {
+        a = a.add(block::block_at(s, i)).dot32(h);
+        i += 16;
+    }
+    a
 }

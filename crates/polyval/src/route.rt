@@ -1,0 +1,67 @@
+// The routes by which blocks are absorbed. The caller chooses; the choice has no effect on the answer
+// where the key's check says yes.
+use crate::key::ExpandedKey;
+use crate::rf;
+use crate::soft;
+use field::rf::Counted;
+ghost use mathlib.Core.Path.{_≡_};
+ghost use Rattle.field.specs.Element.{value};
+ghost use Rattle.field.specs.Rf.{counted};
+ghost use Rattle.polyval.specs.declared.route.Route.the-variants.{Wide, Narrow};
+ghost use Rattle.polyval.specs.Blocks.{blocks};
+ghost use Rattle.polyval.specs.Formulas.{inGroups, alone};
+ghost use Rattle.polyval.specs.Routes.{absorbOn};
+
+// Wide multiplies by 64-bit limbs and Narrow by 32-bit limbs; both read H alone. Rf takes the key's
+// stored powers and D values, and counts its word products.
+pub enum Route {
+    Wide,
+    Narrow,
+    Rf,
+}
+
+fn wide(key: ExpandedKey, held: Counted, s: &[u8]) -> Counted
+    ensures { λ r. ⌜ r ≡ absorbOn Wide alone key held (blocks (now (s .entry))) ⌝ }
+{
+    let powers = key.powers;
+    let first = powers[0];
+    Counted {
+        element: soft::absorb(first.h, held.element, s),
+        multiplies: held.multiplies,
+    }
+}
+
+fn narrow(key: ExpandedKey, held: Counted, s: &[u8]) -> Counted
+    ensures { λ r. ⌜ r ≡ absorbOn Narrow alone key held (blocks (now (s .entry))) ⌝ }
+{
+    let powers = key.powers;
+    let first = powers[0];
+    Counted {
+        element: soft::absorb32(first.h, held.element, s),
+        multiplies: held.multiplies,
+    }
+}
+
+// The blocks of s as whole-block and padded feeds take them.
+pub(crate) fn absorb_in_groups(route: Route, key: ExpandedKey, held: Counted, s: &[u8]) -> Counted
+    ensures { λ r. ⌜ r ≡ absorbOn route inGroups key held (blocks (now (s .entry))) ⌝ }
+{
+    let powers = key.powers;
+    match route {
+        Route::Wide => wide(key, held, s),
+        Route::Narrow => narrow(key, held, s),
+        Route::Rf => rf::absorb_in_groups(powers, held, s),
+    }
+}
+
+// The blocks of s as piece feed and finish take them.
+pub(crate) fn absorb_alone(route: Route, key: ExpandedKey, held: Counted, s: &[u8]) -> Counted
+    ensures { λ r. ⌜ r ≡ absorbOn route alone key held (blocks (now (s .entry))) ⌝ }
+{
+    let powers = key.powers;
+    match route {
+        Route::Wide => wide(key, held, s),
+        Route::Narrow => narrow(key, held, s),
+        Route::Rf => rf::absorb_alone(powers, held, s),
+    }
+}
