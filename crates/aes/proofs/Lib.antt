@@ -1,3 +1,5 @@
--- Laws that the functions' proofs share, and what the calls come to together.
-pub mod Laws
+-- Laws that the functions' proofs share, what the calls come to together, and that two answers which meet a promise are equal.
+pub mod Schedule
+pub mod Words
 pub mod Whole
+pub mod Unique

@@ -1,6 +1,6 @@
 -- What a table of values says of each value. Assumes nothing.
 use mathlib.Core.Path.{_≡_, refl, sym, ap, _∙_}
-use mathlib.Core.List.{List}
+use mathlib.Core.List.{List, _∷_, map}
 use Prim.Native.Nat.{ℕ, zero, suc, _<_}
 use native.Mathlib.Nat.{not-suc-le-zero, le-of-suc-le-suc}
 use lib.ListN.{length, getD}
@@ -18,3 +18,7 @@ tab-getD (suc n) f (suc i) h = tab-getD n (λ i. f (suc i)) i (le-of-suc-le-suc 
 -- two functions with one table agree: how a law of every byte is computed once
 pub agree : (n : ℕ) (f g : ℕ → ℕ) → tab n f ≡ tab n g → (i : ℕ) → i < n → f i ≡ g i
 agree n f g e i h = sym (tab-getD n f i h) ∙ ap (λ (l : List ℕ). getD l i 0) e ∙ tab-getD n g i h
+
+pub map-tab : (n : ℕ) (f g : ℕ → ℕ) → map f (tab n g) ≡ tab n (λ i. f (g i))
+map-tab zero f g = refl
+map-tab (suc n) f g = ap (λ (l : List ℕ). f (g zero) ∷ l) (map-tab n f (λ i. g (suc i)))

@@ -1,16 +1,13 @@
 -- `aes::encrypt128` meets its contract. Assumes nothing.
-use mathlib.Core.Path.{_≡_, sym}
 use native.Mathlib.Nat.{le-of-eq}
+use mathlib.Core.Path.{_≡_, sym}
 use lib.ListN.{length}
 use borrow.Author.Needs.{needs}
 use Rattle.aes.proofs.encrypt128.Statement.{statement}
 use Rattle.aes.proofs.encrypt128.Tie as tie
 
 encrypt-requires : tie.Need-encrypt-requires
-encrypt-requires c κs =
-    let e : length (c .before .before .before .before .args .schedule .bytes) ≡ 176 = search needs in
-    (c .before .before .sbox-table .ensures, (search needs, le-of-eq (sym e)))
+encrypt-requires c κs = let e : length (c .before .before .args .schedule .bytes) ≡ 176 = search needs in (search needs, le-of-eq (sym e))
 
 pub encrypt128-spec : {M : Type 1} → statement M
-encrypt128-spec =
-    tie.close (tie.spec (λ c κs. search needs) (λ c. search needs) encrypt-requires (λ c. search needs))
+encrypt128-spec = tie.close (tie.spec (λ c. search needs) encrypt-requires (λ c. search needs))

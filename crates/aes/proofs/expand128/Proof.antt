@@ -1,25 +1,20 @@
 -- `aes::expand128` meets its contract. Assumes nothing.
-use mathlib.Core.Path.{ap, _∙_}
-use mathlib.Core.List.{List}
-use Prim.Native.Nat.{ℕ}
-use lib.ListN.{replicate}
-use Rattle.fips197.specs.KeyExpansion.{expand, keyExpansion}
-use Rattle.aes.proofs.Laws.{key-front}
 use borrow.Author.Needs.{needs}
+use lib.ListN.{replicate}
+use Rattle.aes.proofs.Schedule.{schedule-law}
 use Rattle.aes.proofs.expand128.Statement.{statement}
 use Rattle.aes.proofs.expand128.Tie as tie
 
 returns : tie.Need-returns
-unfolding keyExpansion
 returns c =
-    c .before .expand .ensures
-    ∙ ap (λ (k : List ℕ). expand 4 k 40) (key-front 16 (c .before .before .before .before .before .before .before .before .before .args .t1) (replicate 176 0) _ (search needs) (c .before .before .before .before .before .put .ensures))
+    let after-put = c .before .before .before .before in
+    let key = after-put .before .before .before .args .t1 in
+    schedule-law 4 10 key (replicate 176 0) _ _ (search needs) (after-put .put .ensures) (c .before .expand .ensures)
 
 pub expand128-spec : {M : Type 1} → statement M
 expand128-spec =
     tie.close
     (tie.spec
-    (λ c κs. search needs)
     (λ c. search needs)
     (λ c. search needs)
     (λ c κs. search needs)

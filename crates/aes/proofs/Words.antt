@@ -1,0 +1,156 @@
+-- Laws of the state as four words. Assumes nothing.
+use mathlib.Core.Path.{_≡_, refl, sym, ap, ap₂, _∙_}
+use mathlib.Core.List.{List, [], _∷_, _++_}
+use Prim.Native.Nat.{ℕ, zero, suc, _+_, _-_, _*_, _/_, _%_, _^_, _≤_, _<_}
+use native.Mathlib.Omega.{arith}
+use lib.Pow.{shr-shr}
+use lib.Bits.{bitOr, or-shifted}
+use lib.ListN.{getD}
+use Rattle.gf2.specs.Carryless.{_⊕_}
+use Rattle.gf2.specs.Bytes.{number, bytesOf}
+use Rattle.gf2.proofs.Xor.{⊕-mod, ⊕-shr, ⊕-comm, ⊕-assoc}
+use Rattle.gf2.proofs.Bytes.{bytesOf-number}
+use Rattle.fips197.specs.Table.{tab}
+use Rattle.fips197.specs.Field.{gmul}
+use Rattle.fips197.specs.Cipher.{mix, mixColumn, subBytes, shiftRows, mixColumns, addRoundKey, rounds, cipher}
+use Rattle.fips197.proofs.Field.{gmul-lt}
+use Rattle.aes_tables.specs.Words.{mixed0}
+use Rattle.aes.specs.declared.rounds.State.{State}
+use Rattle.aes.specs.State.{row, stateOf}
+
+-- bytes added one by one
+abbrev pub xors : List ℕ → List ℕ → List ℕ
+xors [] m = []
+xors (a ∷ l) [] = []
+xors (a ∷ l) (b ∷ m) = (a ⊕ b) ∷ xors l m
+
+pub bytesOf-⊕ : (k x y : ℕ) → bytesOf k (x ⊕ y) ≡ xors (bytesOf k x) (bytesOf k y)
+unfolding bytesOf
+bytesOf-⊕ zero x y = refl
+bytesOf-⊕ (suc k) x y =
+    ap₂ (λ (a : ℕ) (l : List ℕ). a ∷ l) (⊕-mod x y 8) (ap (bytesOf k) (⊕-shr x y 8) ∙ bytesOf-⊕ k (x / 256) (y / 256))
+
+-- the rows of a column as the code reads them
+pub row0 : (x : ℕ) → x % 256 ≡ row 0 x
+unfolding bytesOf
+row0 x = refl
+
+pub row1 : (x : ℕ) → x / 2 ^ 8 % 256 ≡ row 1 x
+unfolding bytesOf
+row1 x = refl
+
+pub row2 : (x : ℕ) → x / 2 ^ 16 % 256 ≡ row 2 x
+unfolding bytesOf
+row2 x = ap (λ (n : ℕ). n % 256) (sym (shr-shr x 8 8))
+
+pub row3 : (x : ℕ) → x / 2 ^ 24 % 256 ≡ row 3 x
+unfolding bytesOf
+row3 x = ap (λ (n : ℕ). n % 256) (sym (ap (λ (n : ℕ). n / 256) (shr-shr x 8 8) ∙ shr-shr x 16 8))
+
+pub rows : (x : ℕ) → x % 256 ∷ x / 2 ^ 8 % 256 ∷ x / 2 ^ 16 % 256 ∷ x / 2 ^ 24 % 256 ∷ [] ≡ bytesOf 4 x
+unfolding bytesOf
+rows x = λ i. x % 256 ∷ row1 x i ∷ row2 x i ∷ row3 x i ∷ []
+
+pub bytes-four : (a b c d : ℕ) → a < 256 → b < 256 → c < 256 → d < 256 → bytesOf 4 (a + b * 256 + c * 65536 + d * 16777216) ≡ a ∷ b ∷ c ∷ d ∷ []
+unfolding number
+bytes-four a b c d ha hb hc hd =
+    let e : a + b * 256 + c * 65536 + d * 16777216 ≡ number (a ∷ b ∷ c ∷ d ∷ []) = omega arith in
+    ap (bytesOf 4) e ∙ bytesOf-number (a ∷ b ∷ c ∷ d ∷ []) (ha, (hb, (hc, (hd, tt))))
+
+-- a word turned left by k bits, with 32 - k = j
+abbrev pub turned : (j k x : ℕ) → ℕ
+turned j k x = bitOr (x * 2 ^ k % 2 ^ 32) (x / 2 ^ j)
+
+module _ (a b c d : ℕ) (ha : a < 256) (hb : b < 256) (hc : c < 256) (hd : d < 256) where
+  bytes : (x : ℕ) → x ≡ number (a ∷ b ∷ c ∷ d ∷ []) → bytesOf 4 x ≡ a ∷ b ∷ c ∷ d ∷ []
+  bytes x e = ap (bytesOf 4) e ∙ bytesOf-number (a ∷ b ∷ c ∷ d ∷ []) (ha, (hb, (hc, (hd, tt))))
+
+-- a word turned by one, two and three bytes
+module _ (a b c d : ℕ) (ha : a < 256) (hb : b < 256) (hc : c < 256) (hd : d < 256) where
+  turn8 : bytesOf 4 (turned 24 8 (number (a ∷ b ∷ c ∷ d ∷ []))) ≡ d ∷ a ∷ b ∷ c ∷ []
+  unfolding number
+  turn8 =
+      let n : ℕ = a + (b + (c + (d + 0 * 256) * 256) * 256) * 256 in
+      let low : n * 2 ^ 8 % 2 ^ 32 ≡ (a + b * 256 + c * 65536) * 2 ^ 8 = omega arith in
+      let high : n / 2 ^ 24 ≡ d = omega arith in
+      bytes d a b c hd ha hb hc _ (ap₂ bitOr low high ∙ or-shifted (a + b * 256 + c * 65536) 8 d hd ∙ omega arith)
+
+  turn16 : bytesOf 4 (turned 16 16 (number (a ∷ b ∷ c ∷ d ∷ []))) ≡ c ∷ d ∷ a ∷ b ∷ []
+  unfolding number
+  turn16 =
+      let n : ℕ = a + (b + (c + (d + 0 * 256) * 256) * 256) * 256 in
+      let low : n * 2 ^ 16 % 2 ^ 32 ≡ (a + b * 256) * 2 ^ 16 = omega arith in
+      let high : n / 2 ^ 16 ≡ c + d * 256 = omega arith in
+      bytes c d a b hc hd ha hb _ (ap₂ bitOr low high ∙ or-shifted (a + b * 256) 16 (c + d * 256) (omega arith) ∙ omega arith)
+
+  turn24 : bytesOf 4 (turned 8 24 (number (a ∷ b ∷ c ∷ d ∷ []))) ≡ b ∷ c ∷ d ∷ a ∷ []
+  unfolding number
+  turn24 =
+      let n : ℕ = a + (b + (c + (d + 0 * 256) * 256) * 256) * 256 in
+      let low : n * 2 ^ 24 % 2 ^ 32 ≡ a * 2 ^ 24 = omega arith in
+      let high : n / 2 ^ 8 ≡ b + c * 256 + d * 65536 = omega arith in
+      bytes b c d a hb hc hd ha _ (ap₂ bitOr low high ∙ or-shifted a 24 (b + c * 256 + d * 65536) (omega arith) ∙ omega arith)
+
+-- the first of four goes to the end
+turn : (a b c d : ℕ) → a ⊕ b ⊕ c ⊕ d ≡ b ⊕ c ⊕ d ⊕ a
+turn a b c d = ap (λ (n : ℕ). n ⊕ d) (⊕-assoc a b c) ∙ ⊕-assoc a (b ⊕ c) d ∙ ⊕-comm a (b ⊕ c ⊕ d)
+
+-- the words of four bytes, turned to their rows, add up to the mixed column
+pub column-law : (p q r s : ℕ) → p < 256 → q < 256 → r < 256 → s < 256
+    → bytesOf 4 (mixed0 p ⊕ turned 24 8 (mixed0 q) ⊕ turned 16 16 (mixed0 r) ⊕ turned 8 24 (mixed0 s)) ≡ mixColumn p q r s
+unfolding mixed0 mix
+column-law p q r s hp hq hr hs =
+    let x : ℕ = mixed0 p in
+    let y : ℕ = turned 24 8 (mixed0 q) in
+    let z : ℕ = turned 16 16 (mixed0 r) in
+    let t : ℕ = turned 8 24 (mixed0 s) in
+    bytesOf-⊕ 4 (x ⊕ y ⊕ z) t
+    ∙ ap₂ xors (bytesOf-⊕ 4 (x ⊕ y) z ∙ ap₂ xors (bytesOf-⊕ 4 x y ∙ ap₂ xors (bytes (gmul 2 p) p p (gmul 3 p) (gmul-lt 2 p) hp hp (gmul-lt 3 p) x refl) (turn8 (gmul 2 q) q q (gmul 3 q) (gmul-lt 2 q) hq hq (gmul-lt 3 q))) (turn16 (gmul 2 r) r r (gmul 3 r) (gmul-lt 2 r) hr hr (gmul-lt 3 r))) (turn24 (gmul 2 s) s s (gmul 3 s) (gmul-lt 2 s) hs hs (gmul-lt 3 s))
+    ∙ (λ i. mix p q r s ∷ turn p (gmul 2 q) (gmul 3 r) s i ∷ (turn p q (gmul 2 r) (gmul 3 s) ∙ turn q (gmul 2 r) (gmul 3 s) p) i
+    ∷ (turn (gmul 3 p) q r (gmul 2 s) ∙ turn q r (gmul 2 s) (gmul 3 p) ∙ turn r (gmul 2 s) (gmul 3 p) q) i ∷ [])
+
+-- row 1 of a byte's word is the byte
+pub middle : (y : ℕ) → y < 256 → mixed0 y / 256 % 256 ≡ y
+unfolding mixed0 number
+middle y h =
+    let u : ℕ = gmul 2 y in
+    let v : ℕ = gmul 3 y in
+    let hu : u < 256 = gmul-lt 2 y in
+    let hv : v < 256 = gmul-lt 3 y in
+    omega arith
+
+-- the four columns side by side
+abbrev pub beside : List ℕ → List ℕ → List ℕ → List ℕ → List ℕ
+beside p q r s = p ++ (q ++ (r ++ s))
+
+-- the same, element by element
+abbrev pub sixteen : List ℕ → List ℕ → List ℕ → List ℕ → List ℕ
+sixteen p q r s =
+    getD p 0 0 ∷ getD p 1 0 ∷ getD p 2 0 ∷ getD p 3 0 ∷ getD q 0 0 ∷ getD q 1 0 ∷ getD q 2 0 ∷ getD q 3 0
+    ∷ getD r 0 0 ∷ getD r 1 0 ∷ getD r 2 0 ∷ getD r 3 0 ∷ getD s 0 0 ∷ getD s 1 0 ∷ getD s 2 0 ∷ getD s 3 0 ∷ []
+
+-- adding a round key, word by word
+pub key-law : (s k o : State) (w : List ℕ) (r : ℕ) → stateOf k ≡ tab 16 (λ j. getD w (16 * r + j) 0)
+    → o .a ≡ s .a ⊕ k .a → o .b ≡ s .b ⊕ k .b → o .c ≡ s .c ⊕ k .c → o .d ≡ s .d ⊕ k .d → stateOf o ≡ addRoundKey (stateOf s) w r
+unfolding addRoundKey bytesOf
+key-law s k o w r ek ea eb ec ed =
+    (λ i. beside ((ap (bytesOf 4) ea ∙ bytesOf-⊕ 4 (s .a) (k .a)) i) ((ap (bytesOf 4) eb ∙ bytesOf-⊕ 4 (s .b) (k .b)) i)
+    ((ap (bytesOf 4) ec ∙ bytesOf-⊕ 4 (s .c) (k .c)) i) ((ap (bytesOf 4) ed ∙ bytesOf-⊕ 4 (s .d) (k .d)) i))
+    ∙ ap (xors (stateOf s)) ek
+
+-- a turn of the rounds, and their end
+pub round-turn : (w s t m k : List ℕ) (r : ℕ) → 1 ≤ r → t ≡ rounds w s (r - 1) → m ≡ mixColumns (shiftRows (subBytes t)) → k ≡ addRoundKey m w r
+    → k ≡ rounds w s (r + 1 - 1)
+unfolding rounds
+round-turn w s t m k r h e em ek =
+    let n : r ≡ suc (r - 1) = omega arith in
+    let n′ : r + 1 - 1 ≡ suc (r - 1) = omega arith in
+    ek ∙ ap (λ (x : List ℕ). addRoundKey x w r) (em ∙ ap (λ (x : List ℕ). mixColumns (shiftRows (subBytes x))) e)
+    ∙ ap (addRoundKey (mixColumns (shiftRows (subBytes (rounds w s (r - 1))))) w) n ∙ sym (ap (rounds w s) n′)
+
+pub last-round : (w block b s t m k : List ℕ) (nr r : ℕ) → r ≡ nr → b ≡ tab 16 (λ j. getD block (0 + j) 0) → s ≡ addRoundKey b w 0
+    → t ≡ rounds w s (r - 1) → m ≡ shiftRows (subBytes t) → k ≡ addRoundKey m w nr → k ≡ cipher nr w block
+unfolding cipher addRoundKey
+last-round w block b s t m k nr r e eb es et em ek =
+    let s′ : s ≡ addRoundKey block w 0 = es ∙ ap (λ (x : List ℕ). addRoundKey x w 0) eb in
+    ek ∙ ap (λ (x : List ℕ). addRoundKey x w nr) (em ∙ ap (λ (x : List ℕ). shiftRows (subBytes x)) (et ∙ ap₂ (λ (x : List ℕ) (n : ℕ). rounds w x (n - 1)) s′ e))

@@ -1,0 +1,14 @@
+-- A state of FIPS 197, which is a list of 16 bytes, as the four words that hold it. Assumes nothing.
+use Prim.Native.Nat.{ℕ}
+use mathlib.Core.List.{List, _++_}
+use lib.ListN.{getD}
+use Rattle.gf2.specs.Bytes.{bytesOf}
+use Rattle.aes.specs.declared.rounds.State.{State}
+
+-- row r of a column
+abbrev pub row : ℕ → ℕ → ℕ
+row r x = getD (bytesOf 4 x) r 0
+
+-- the columns, one after the other
+abbrev pub stateOf : State → List ℕ
+stateOf s = bytesOf 4 (s .a) ++ (bytesOf 4 (s .b) ++ (bytesOf 4 (s .c) ++ bytesOf 4 (s .d)))
