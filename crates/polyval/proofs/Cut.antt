@@ -1,14 +1,14 @@
 -- Byte strings cut into blocks: two strings one after the other, one block more, and zeros behind a string. Assumes nothing.
 use mathlib.Core.Path.{_≡_, refl, sym, ap, ap₂, _∙_, subst}
 use mathlib.Core.List.{List, [], _∷_, _++_}
-use Prim.Native.Nat.{ℕ, zero, suc, _+_, _-_, _*_, _/_, _%_, _≤_, _<_, _^_}
-use native.Mathlib.Nat.{zero-add, suc-add, lt-of-lt-of-le, pow-le-pow-right}
+use Prim.Native.Nat.{ℕ, zero, suc, _+_, _-_, _*_, _/_, _%_, _≤_, _<_, _^_, min}
+use native.Mathlib.Nat.{zero-add, suc-add, min-comm, min-le-left, lt-of-lt-of-le, pow-le-pow-right}
 use native.Mathlib.Omega.{arith}
-use lib.ListN.{length, take, drop, replicate, length-append, length-drop}
+use lib.ListN.{length, take, drop, replicate, length-append, length-take, length-drop}
 use lib.Dec.{lit≤}
-use lib.Seq.{paste, take-length, take-append-le, drop-append-le, take-add, take-all, length-take-le}
+use lib.Seq.{paste, take-append-le, drop-append-le, take-add, take-all, length-take-le}
 use Rattle.gf2.specs.Bytes.{number}
-use Rattle.gf2.proofs.Bytes.{Bytes, number-lt}
+use Rattle.gf2.proofs.Bytes.{Bytes, bytes-take, number-lt}
 use Rattle.polyval.specs.Blocks.{blocksN, blocks}
 
 blocksN-++ : (m n : ℕ) (s t : List ℕ) → length s ≡ m * 16 → blocksN (m + n) (s ++ t) ≡ blocksN m s ++ blocksN n t
@@ -59,11 +59,15 @@ blocks-turn s i whole room =
     ∙ ap (λ bs. blocks (take i s) ++ bs) (blocks-one (take 16 (drop i s)) (omega arith) (omega arith))
 
 -- a block, whole or short, is an element
-pub block-lt : (s : List ℕ) → Bytes s → length s ≤ 16 → number s < 2 ^ 128
-block-lt s bytes few = lt-of-lt-of-le (number-lt s bytes) (subst (λ n. 256 ^ length s ≤ n) power (pow-le-pow-right (lit≤ tt) few))
+pub block-lt : (s : List ℕ) → Bytes s → number (take 16 s) < 2 ^ 128
+block-lt s bytes =
+    lt-of-lt-of-le (number-lt (take 16 s) (bytes-take 16 s bytes)) (subst (λ n. 256 ^ length (take 16 s) ≤ n) power (pow-le-pow-right (lit≤ tt) short))
   where
     power : 256 ^ 16 ≡ 2 ^ 128
     power = refl
+
+    short : length (take 16 s) ≤ 16
+    short = subst (λ n. n ≤ 16) (sym (length-take 16 s)) (min-le-left 16 (length s))
 
 -- zeros behind a string do not change its number
 pub number-zeros : (s : List ℕ) (k : ℕ) → number (s ++ replicate k 0) ≡ number s
@@ -77,9 +81,17 @@ drop-zeros zero k = let e : k - 0 ≡ k = omega arith in ap (λ m. replicate {A 
 drop-zeros (suc n) zero = let e : 0 - suc n ≡ 0 = omega arith in ap (λ m. replicate {A = ℕ} m 0) (sym e)
 drop-zeros (suc n) (suc k) = let e : suc k - suc n ≡ k - n = omega arith in drop-zeros n k ∙ ap (λ m. replicate {A = ℕ} m 0) (sym e)
 
--- a string stored at the front of zeros
-pub pasted-zeros : (s : List ℕ) → paste (replicate 16 0) 0 s (length s) ≡ s ++ replicate (16 - length s) 0
-pasted-zeros s = ap₂ _++_ (take-length s) (ap (λ n. drop n (replicate {A = ℕ} 16 0)) (zero-add (length s)) ∙ drop-zeros (length s) 16)
+-- what has room of a string, stored at the front of zeros
+pub pasted-zeros : (s : List ℕ) → paste (replicate 16 0) 0 s (min (length s) (16 - 0)) ≡ take 16 s ++ replicate (16 - length (take 16 s)) 0
+pasted-zeros s =
+    let short : length (take 16 s) ≡ min (length s) 16 = length-take 16 s ∙ min-comm 16 (length s) in
+    ap₂ _++_ (ap (λ n. take n s) (sym short) ∙ take-front 16 s)
+    (ap (λ n. drop n (replicate {A = ℕ} 16 0)) (zero-add (min (length s) 16) ∙ sym short) ∙ drop-zeros (length (take 16 s)) 16)
+  where
+    take-front : (n : ℕ) (s : List ℕ) → take (length (take n s)) s ≡ take n s
+    take-front zero s = refl
+    take-front (suc n) [] = refl
+    take-front (suc n) (x ∷ s) = ap (λ t. x ∷ t) (take-front n s)
 
-pub number-pasted : (s : List ℕ) → number (paste (replicate 16 0) 0 s (length s)) ≡ number s
-number-pasted s = ap number (pasted-zeros s) ∙ number-zeros s (16 - length s)
+pub number-pasted : (s : List ℕ) → number (paste (replicate 16 0) 0 s (min (length s) (16 - 0))) ≡ number (take 16 s)
+number-pasted s = ap number (pasted-zeros s) ∙ number-zeros (take 16 s) (16 - length (take 16 s))

@@ -43,7 +43,7 @@ fn narrow(key: ExpandedKey, held: Counted, s: &[u8]) -> Counted
 }
 
 // The blocks of s as whole-block and padded feeds take them.
-pub(crate) fn absorb_in_groups(route: Route, key: ExpandedKey, held: Counted, s: &[u8]) -> Counted
+pub fn absorb_in_groups(route: Route, key: ExpandedKey, held: Counted, s: &[u8]) -> Counted
     ensures { λ r. ⌜ r ≡ absorbOn route inGroups key held (blocks (now (s .entry))) ⌝ }
 {
     let powers = key.powers;
@@ -55,7 +55,7 @@ pub(crate) fn absorb_in_groups(route: Route, key: ExpandedKey, held: Counted, s:
 }
 
 // The blocks of s as piece feed and finish take them.
-pub(crate) fn absorb_alone(route: Route, key: ExpandedKey, held: Counted, s: &[u8]) -> Counted
+pub fn absorb_alone(route: Route, key: ExpandedKey, held: Counted, s: &[u8]) -> Counted
     ensures { λ r. ⌜ r ≡ absorbOn route alone key held (blocks (now (s .entry))) ⌝ }
 {
     let powers = key.powers;

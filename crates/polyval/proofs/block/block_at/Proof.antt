@@ -1,15 +1,12 @@
 -- `polyval::block::block_at` meets its contract. Assumes nothing.
-use mathlib.Core.Path.{ap, _∙_}
-use Prim.Native.Nat.{_-_}
-use lib.ListN.{take, drop}
+use mathlib.Core.Path.{sym, ap, _∙_}
+use native.Mathlib.Omega.{arith}
+use lib.ListN.{take, drop-of-length-le}
 use Rattle.gf2.specs.Bytes.{number}
-use Rattle.polyval.proofs.Parts.{part-taken}
+use Rattle.polyval.proofs.Cut.{part-rest}
 use borrow.Author.Needs.{needs}
 use Rattle.polyval.proofs.block.block_at.Statement.{statement}
 use Rattle.polyval.proofs.block.block_at.Tie as tie
-
-end-of-requires : tie.Need-end-of-requires
-end-of-requires c κs = search needs
 
 sub-block-of : tie.Need-sub-block-of
 sub-block-of c = search needs
@@ -25,18 +22,22 @@ block-of-requires c κs = search needs
 
 returns : tie.Need-returns
 returns c =
-    let start = c .before .before .before .before in
-    let i = start .args .i in
-    let s = start .args .s .now in
-    c .block-of .ensures ∙ ap (λ n. number (take (n - i) (drop i s))) (c .before .before .end-of .ensures) ∙ ap number (part-taken i 16 s (start .pre))
+    let a = c .before .before .before .before .args in
+    c .block-of .ensures ∙ ap (λ t. number (take 16 t)) (part-rest (a .i) (a .s .now))
+
+returns-2 : tie.Need-returns-2
+unfolding number
+returns-2 c =
+    let a = c .before .before .args in
+    sym (ap (λ t. number (take 16 t)) (drop-of-length-le (a .s .now) {i = a .i} (omega arith)))
 
 pub block-at-spec : {M : Type 1} → statement M
 block-at-spec =
     tie.close
     (tie.spec
-    end-of-requires
     sub-block-of
     part-block-of-start
     part-block-of-end
     block-of-requires
-    returns)
+    returns
+    returns-2)

@@ -1,11 +1,12 @@
 -- `polyval::block::block_of` meets its contract. Assumes nothing.
 use mathlib.Core.Path.{ap, _∙_}
-use borrow.Author.Needs.{needs}
+use lib.ListN.{take}
 use Rattle.gf2.specs.Bytes.{number}
 use Rattle.gf2.proofs.Bytes.{bytes-from}
 use Rattle.field.specs.Element.{element}
 use Rattle.field.proofs.Element.{value-of}
 use Rattle.polyval.proofs.Cut.{number-pasted, block-lt}
+use borrow.Author.Needs.{needs}
 use Rattle.polyval.proofs.block.block_of.Statement.{statement}
 use Rattle.polyval.proofs.block.block_of.Tie as tie
 
@@ -17,9 +18,8 @@ from-bytes-requires c κs = search needs
 
 returns : tie.Need-returns
 returns c =
-    let start = c .before .before .before in
-    let s = start .args .s .now in
-    value-of (number s) (block-lt s (bytes-from s (λ i. c .before .before .shared-slice-known .given i .fits)) (start .pre))
+    let s = c .before .before .before .args .s .now in
+    value-of (number (take 16 s)) (block-lt s (bytes-from s (λ i. c .before .before .shared-slice-known .given i .fits)))
     (c .from-bytes .ensures ∙ ap (λ b. element (number b)) (c .before .pasted .ensures) ∙ ap element (number-pasted s))
 
 pub block-of-spec : {M : Type 1} → statement M

@@ -3,14 +3,12 @@ use Prim.Native.Nat.{ℕ, _-_, _%_}
 use mathlib.Core.Path.{sym, ap, _∙_}
 use native.Mathlib.Omega.{arith}
 use borrow.Author.Needs.{needs}
-use lib.ListN.{length, length-drop}
+use lib.ListN.{length}
 use lib.Seq.{take-all, length-take-le}
 use Rattle.field.specs.Element.{value, element}
 use Rattle.field.proofs.Element.{value-lt}
 use Rattle.polyval.specs.Machine.{run}
 use Rattle.polyval.specs.Blocks.{blocks}
-use Rattle.gf2.specs.Bytes.{number}
-use Rattle.polyval.proofs.Cut.{part-rest}
 use Rattle.polyval.proofs.Absorb.{absorb-last}
 use Rattle.polyval.proofs.soft.absorb.Statement.{statement}
 use Rattle.polyval.proofs.soft.absorb.Tie as tie
@@ -38,10 +36,7 @@ part-block-of-end : tie.Need-part-block-of-end
 part-block-of-end c = omega arith
 
 block-of-requires : tie.Need-block-of-requires
-block-of-requires c κs =
-    let s = c .before .before .before .before .before .args .s .now in
-    let whole : ℕ = length s - length s % 16 in
-    omega (arith, ap length (part-rest whole s) ∙ length-drop whole s)
+block-of-requires c κs = search needs
 
 step-requires : tie.Need-step-requires
 step-requires c κs = search needs
@@ -59,7 +54,7 @@ returns-2 c =
     let whole : ℕ = length (a .s .now) - length (a .s .now) % 16 in
     absorb-last (value (a .h)) (value (a .acc)) (value-lt (a .acc) (record { lo = omega (arith, start .good); hi = omega (arith, start .good) }))
     (c .before .before .before .before .absorb-whole .result) (c .before .block-of .result) (c .step .result) (a .s .now) whole (omega arith) (omega (arith, c .before .before .before .if1 .left)) (omega arith)
-    (c .before .before .before .before .absorb-whole .ensures) (c .before .block-of .ensures ∙ ap number (part-rest whole (a .s .now))) (c .step .ensures)
+    (c .before .before .before .before .absorb-whole .ensures) (c .before .block-of .ensures) (c .step .ensures)
 
 pub absorb-spec : {M : Type 1} → statement M
 absorb-spec =

@@ -9,7 +9,6 @@ use Rattle.field.specs.Element.{value, element}
 use Rattle.field.proofs.Element.{value-lt, element-value}
 use Rattle.polyval.specs.Machine.{run}
 use Rattle.polyval.specs.Blocks.{blocks}
-use Rattle.polyval.proofs.Cut.{length-part}
 use Rattle.polyval.proofs.Absorb.{absorb-none, absorb-turn}
 use Rattle.polyval.proofs.soft.absorb_whole.Statement.{statement}
 use Rattle.polyval.proofs.soft.absorb_whole.Tie as tie
@@ -38,7 +37,7 @@ part-block-of-end : tie.Need-part-block-of-end Inv-loop μ-loop
 part-block-of-end c = omega arith
 
 block-of-requires : tie.Need-block-of-requires Inv-loop μ-loop
-block-of-requires c κs = omega (arith, length-part (c .before .before .loop .i) 16 (c .before .before .before .before .args .s .now) (omega arith))
+block-of-requires c κs = search needs
 
 step-requires : tie.Need-step-requires Inv-loop μ-loop
 step-requires c κs = search needs
