@@ -3,14 +3,8 @@ use borrow.Author.Needs.{needs}
 use Rattle.word.proofs.product64.Statement.{statement}
 use Rattle.word.proofs.product64.Tie as tie
 
-bmul64-requires : tie.Need-bmul64-requires
-bmul64-requires c κs = search needs
-
-upper64-requires : tie.Need-upper64-requires
-upper64-requires c κs = search needs
-
 returns : tie.Need-returns
 returns c = λ i. record { lo = c .before .bmul64 .ensures i; hi = c .upper64 .ensures i }
 
 pub product64-spec : {M : Type 1} → statement M
-product64-spec = tie.close (tie.spec bmul64-requires upper64-requires returns)
+product64-spec = tie.close (tie.spec (λ c κs. search needs) (λ c κs. search needs) returns)

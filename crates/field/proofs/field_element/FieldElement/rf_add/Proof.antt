@@ -7,18 +7,6 @@ use borrow.Author.Needs.{needs}
 use Rattle.field.proofs.field_element.FieldElement.rf_add.Statement.{statement}
 use Rattle.field.proofs.field_element.FieldElement.rf_add.Tie as tie
 
-plus-product-requires : tie.Need-plus-product-requires
-plus-product-requires c κs = search needs
-
-plus-product-requires-2 : tie.Need-plus-product-requires-2
-plus-product-requires-2 c κs = search needs
-
-plus-product-requires-3 : tie.Need-plus-product-requires-3
-plus-product-requires-3 c κs = search needs
-
-plus-product-requires-4 : tie.Need-plus-product-requires-4
-plus-product-requires-4 c κs = search needs
-
 returns : tie.Need-returns
 returns c =
     -- the places of the calls, the last one first
@@ -47,8 +35,8 @@ pub rf-add-spec : {M : Type 1} → statement M
 rf-add-spec =
     tie.close
     (tie.spec
-    plus-product-requires
-    plus-product-requires-2
-    plus-product-requires-3
-    plus-product-requires-4
+    (λ c κs. search needs)
+    (λ c κs. search needs)
+    (λ c κs. search needs)
+    (λ c κs. search needs)
     returns)

@@ -8,15 +8,6 @@ use borrow.Author.Needs.{needs}
 use Rattle.field.proofs.rf.Counted.plus_product.Statement.{statement}
 use Rattle.field.proofs.rf.Counted.plus_product.Tie as tie
 
-product64-requires : tie.Need-product64-requires
-product64-requires c κs = search needs
-
-add-requires : tie.Need-add-requires
-add-requires c κs = search needs
-
-wrapping-add-u64-requires : tie.Need-wrapping-add-u64-requires
-wrapping-add-u64-requires c κs = search needs
-
 returns : tie.Need-returns
 returns c =
     let at-add = c .before in
@@ -30,4 +21,4 @@ returns c =
 
 pub plus-product-spec : {M : Type 1} → statement M
 plus-product-spec =
-    tie.close (tie.spec product64-requires add-requires wrapping-add-u64-requires returns)
+    tie.close (tie.spec (λ c κs. search needs) (λ c κs. search needs) (λ c κs. search needs) returns)
