@@ -1,9 +1,9 @@
 -- The answers of sealing and opening: what both ask first decides, or is passed over. Assumes nothing.
-use Prim.Native.Nat.{ℕ, _+_, _-_}
+use Prim.Native.Nat.{ℕ, _+_, _-_, _≤_, _<_}
 use mathlib.Core.Path.{_≡_, sym, ap}
 use mathlib.Core.Bool.{Bool, true, false, not}
 use mathlib.Core.List.{List, [], _∷_, _++_}
-use borrow.Author.Tests.{eq-eqb, ne-eqb}
+use borrow.Author.Tests.{lt-ltb, le-ltb, eq-eqb, ne-eqb}
 use lib.Dec.{ltb, lit<}
 use Rattle.answer.specs.Answers.{textTooLong, sealedTooShort, noRoom, tagDiffers}
 use Rattle.answer.specs.Limits.{maxPlaintext, maxSealed}
@@ -53,3 +53,13 @@ module _ (key nonce ad : ℕ) where
 
   pub open-passed : (sealed room : ℕ) (a : Bool) → first (commonRefusals key nonce ad) ≡ 0 → first (openRest sealed room a) ≡ openAnswer key nonce ad sealed room a
   open-passed sealed room a e = common-passed (openRest sealed room a) e
+
+  -- how much room there is plays no part beyond whether it is enough, and without room the tag plays none
+  pub seal-no-room : (text room place : ℕ) → room < text + 16 → place < text + 16 → sealAnswer key nonce ad text room ≡ sealAnswer key nonce ad text place
+  seal-no-room text room place h k = rw (lt-ltb room (text + 16) h, lt-ltb place (text + 16) k)
+
+  pub open-no-room : (sealed room : ℕ) (a b : Bool) → room < sealed - 16 → openAnswer key nonce ad sealed room a ≡ openAnswer key nonce ad sealed room b
+  open-no-room sealed room a b h = rw (lt-ltb room (sealed - 16) h)
+
+  pub open-room : (sealed room place : ℕ) (a : Bool) → sealed - 16 ≤ room → sealed - 16 ≤ place → openAnswer key nonce ad sealed room a ≡ openAnswer key nonce ad sealed place a
+  open-room sealed room place a h k = rw (le-ltb room (sealed - 16) h, le-ltb place (sealed - 16) k)
