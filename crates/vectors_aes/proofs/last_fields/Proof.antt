@@ -1,0 +1,25 @@
+-- `vectors_aes::last_fields` meets its contract. Assumes nothing.
+use lib.ListN.{length-take}
+use borrow.Author.Needs.{needs}
+use native.Mathlib.Omega.{arith}
+use Rattle.vectors_aes.proofs.last_fields.Statement.{statement}
+use Rattle.vectors_aes.proofs.last_fields.Tie as tie
+
+slice-aggregate-unhex : tie.Need-slice-aggregate-unhex
+slice-aggregate-unhex c = simp length-take (omega arith)
+
+pub last-fields-spec : {M : Type 1} → statement M
+last-fields-spec =
+    tie.close
+    (tie.spec
+    slice-aggregate-unhex
+    (λ c. search needs)
+    (λ c κs. search needs)
+    (λ c. search needs)
+    (λ c. search needs)
+    (λ c. search needs)
+    (λ c. search needs)
+    (λ c κs. search needs)
+    (λ c. search needs)
+    (λ c. search needs)
+    (λ c. search needs))

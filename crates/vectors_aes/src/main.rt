@@ -1,0 +1,185 @@
+// Runs lists of AES vectors, and prints how many lines of each list agree. A line has a key of 16 or 32 bytes, a block and its
+// encryption, in hex with a space between; a line that begins with # is a remark.
+use libc::STDOUT_FILENO;
+ghost use mathlib.Core.Path.{_≡_};
+ghost use Prim.Native.Nat.{_≤_};
+ghost use lib.ListN.{length};
+ghost use Rattle.io.specs.Counts.{Counts};
+
+// What a list came to.
+struct Tally {
+    lines: u64,
+    agree: u64,
+}
+
+// A block and its encryption, if they could be read.
+struct Pair {
+    ok: bool,
+    plain: [u8; 16],
+    sealed: [u8; 16],
+}
+
+// The value of a hex digit, and 16 for any other byte.
+fn digit(c: u8) -> u8
+    ensures { λ r. ⌜ r ≤ 16 ⌝ }
+{
+    match c {
+        b'0'..=b'9' => c - b'0',
+        b'a'..=b'f' => c - b'a' + 10,
+        _ => 16,
+    }
+}
+
+// Fills out from hex; false where s is no hex of that many bytes.
+fn unhex(s: &[u8], out: &mut [u8]) -> bool {
+    if s.len() != 2 * out.len() {
+        return false;
+    }
+    let mut i = 0;
+    while i < out.len() {
+        let high = digit(s[2 * i]);
+        let low = digit(s[2 * i + 1]);
+        if 15 < high {
+            return false;
+        }
+        if 15 < low {
+            return false;
+        }
+        out[i] = high * 16 + low;
+        i += 1;
+    }
+    true
+}
+
+// The last two fields of a line.
+fn last_fields(s: &[u8]) -> Pair {
+    let mut plain = [0u8; 16];
+    let mut sealed = [0u8; 16];
+    let mut ok = false;
+    if s.len() == 65 {
+        if unhex(&s[..32], &mut plain) {
+            ok = unhex(&s[33..], &mut sealed);
+        }
+    }
+    Pair { ok, plain, sealed }
+}
+
+fn agrees128(line: &[u8]) -> bool
+    requires { ⌜ length (now line) ≡ 98 ⌝ }
+{
+    let mut key = [0u8; 16];
+    if !unhex(&line[..32], &mut key) {
+        return false;
+    }
+    let fields = last_fields(&line[33..]);
+    let plain = fields.plain;
+    let sealed = fields.sealed;
+    let got = aes::encrypt128(aes::expand128(key), plain);
+    fields.ok && check::same(&got, &sealed)
+}
+
+fn agrees256(line: &[u8]) -> bool
+    requires { ⌜ length (now line) ≡ 130 ⌝ }
+{
+    let mut key = [0u8; 32];
+    if !unhex(&line[..64], &mut key) {
+        return false;
+    }
+    let fields = last_fields(&line[65..]);
+    let plain = fields.plain;
+    let sealed = fields.sealed;
+    let got = aes::encrypt256(aes::expand256(key), plain);
+    fields.ok && check::same(&got, &sealed)
+}
+
+fn agrees(line: &[u8]) -> bool {
+    if line.len() == 98 {
+        return agrees128(line);
+    }
+    if line.len() == 130 {
+        return agrees256(line);
+    }
+    false
+}
+
+// One line more.
+fn tallied(t: Tally, line: &[u8]) -> Tally {
+    if line.len() == 0 {
+        return t;
+    }
+    if line[0] == b'#' {
+        return t;
+    }
+    let lines = std::num::wrapping_add_u64(t.lines, 1);
+    if agrees(line) {
+        return Tally {
+            lines,
+            agree: std::num::wrapping_add_u64(t.agree, 1),
+        };
+    }
+    Tally {
+        lines,
+        agree: t.agree,
+    }
+}
+
+// Where the line that starts at from ends.
+fn line_end(s: &[u8], from: usize) -> usize
+    requires { ⌜ from ≤ length (now s) ⌝ }
+    ensures { λ r. ⌜ (from ≤ r) × (r ≤ length (now (s .entry))) ⌝ }
+{
+    let mut end = from;
+    while end < s.len() {
+        if s[end] == b'\n' {
+            return end;
+        }
+        end += 1;
+    }
+    end
+}
+
+fn count(s: &[u8]) -> Tally {
+    let mut t = Tally { lines: 0, agree: 0 };
+    let mut at = 0;
+    while at < s.len() {
+        let end = line_end(s, at);
+        t = tallied(t, &s[at..end]);
+        at = end + 1;
+    }
+    t
+}
+
+fn show(name: &[u8], t: Tally) {
+    io::write_all(STDOUT_FILENO, name);
+    io::write_all(STDOUT_FILENO, b" ");
+    io::print_decimal(STDOUT_FILENO, t.agree);
+    io::write_all(STDOUT_FILENO, b" of ");
+    io::print_decimal(STDOUT_FILENO, t.lines);
+    io::write_all(STDOUT_FILENO, b"\n");
+}
+
+fn read_file(name: &[u8], buf: &mut [u8]) -> usize
+    ensures { λ r. ⌜ Counts r (now (buf .exit)) ⌝ }
+{
+    let fd = os::open_read(name);
+    if fd < 0 {
+        os::fail(name);
+        return 0;
+    }
+    let n = io::read_full(fd, buf);
+    libc::close(fd);
+    n
+}
+
+fn run(name: &[u8]) {
+    let mut buf = io::large_buffer();
+    let n = read_file(name, &mut buf);
+    show(name, count(&buf[..n]));
+}
+
+fn main() {
+    run(b"fips197.txt");
+    run(b"aes_ecb_128.txt");
+    run(b"aes_ecb_256.txt");
+    run(b"altered.txt");
+}
