@@ -1,0 +1,18 @@
+use mathlib.Core.Path.{sym}
+use native.Mathlib.Omega.{arith}
+use borrow.Author.Tests.{lt-leb}
+use Rattle.show.specs.Lines.{roomFor}
+use Rattle.show.proofs.Written.{by-quarters}
+use Rattle.show.proofs.is_enough.Statement.{statement}
+use Rattle.show.proofs.is_enough.Tie as tie
+use Rattle.show.proofs.is_enough.Reads as reads
+use Rattle.show.proofs.is_enough.Lts as lts
+
+returns : tie.Need-returns
+returns c = sym (lt-leb (roomFor (c .before .args .n)) (c .before .args .room) (omega arith))
+
+returns-2 : tie.Need-returns-2
+returns-2 c = by-quarters _ _ (c .if1 .left)
+
+pub is-enough-spec : {M : Type 1} → statement M
+is-enough-spec = tie.close (tie.spec returns returns-2)

@@ -1,0 +1,73 @@
+use Prim.Native.Nat.{ℕ, _<_}
+use mathlib.Core.Path.{sym, ap, _∙_, subst}
+use native.Mathlib.Nat.{one-le-pow}
+use native.Mathlib.Omega.{arith}
+use lib.Dec.{lit≤}
+use mir.Facts.{toZ-ofZ}
+use Rattle.show.specs.Numbers.{fixed}
+use Rattle.show.proofs.Written.{then, wrote-as}
+use Rattle.show.proofs.Decimals.{digits-length}
+use Rattle.show.proofs.Fixed.{pieces}
+use borrow.Author.Needs.{needs}
+use Rattle.show.proofs.put_fixed.Statement.{statement}
+use Rattle.show.proofs.put_fixed.Tie as tie
+use Rattle.show.proofs.put_fixed.Reads as reads
+use Rattle.show.proofs.put_fixed.Lts as lts
+use Rattle.show.proofs.magnitude.Reads as magnitude-reads
+use Rattle.show.proofs.put.Reads as put-reads
+use Rattle.show.proofs.put_decimal.Reads as put-decimal-reads
+use Rattle.show.proofs.put_digits.Reads as put-digits-reads
+use Rattle.show.proofs.put_sign.Reads as put-sign-reads
+
+magnitude-requires : tie.Need-magnitude-requires
+magnitude-requires c κs = search needs
+
+cast-m : tie.Need-cast-m
+cast-m c = search needs
+
+put-sign-requires : tie.Need-put-sign-requires
+put-sign-requires c κs = search needs
+
+div-put-decimal : tie.Need-div-put-decimal
+div-put-decimal c =
+    let start = c .before .before .before .before .before .before .before in
+    subst (λ (n : ℕ). 0 < n) (sym (start .pre .1 .0)) (one-le-pow (start .args .places) 10 (lit≤ tt))
+
+put-decimal-requires : tie.Need-put-decimal-requires
+put-decimal-requires c κs = search needs
+
+put-requires : tie.Need-put-requires
+put-requires c κs = search needs
+
+put-digits-requires : tie.Need-put-digits-requires
+put-digits-requires c κs = search needs
+
+same-length : tie.Need-same-length
+same-length c = search needs
+
+returns : tie.Need-returns
+returns c =
+    let last = c .before .before in
+    let point = last .before .before .before .before in
+    let whole = point .before .before .before .before in
+    let signed = whole .before .before .before .before in
+    let measured = signed .before .before in
+    let start = measured .before .before in
+    let four = then (omega arith) (then (omega arith) (then (omega arith) (signed .put-sign .ensures .0) (whole .put-decimal .ensures .0)) (point .put .ensures)) (last .put-digits .ensures) in (
+      wrote-as (pieces (start .args .places) (start .args .unit) (measured .magnitude .result) _ (start .pre .1 .0) (measured .magnitude .ensures) ∙ ap (fixed (start .args .places)) (toZ-ofZ (start .fits .z))) four,
+      omega (arith, start .pre .1 .1, digits-length (start .args .places) (measured .magnitude .result), last .put-digits .ensures .next-is, point .put .ensures .next-is),
+    )
+
+pub put-fixed-spec : {M : Type 1} → statement M
+put-fixed-spec =
+    tie.close
+    (tie.spec
+    magnitude-requires
+    cast-m
+    put-sign-requires
+    div-put-decimal
+    put-decimal-requires
+    put-requires
+    put-digits-requires
+    same-length
+    returns)

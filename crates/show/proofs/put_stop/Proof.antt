@@ -1,0 +1,78 @@
+use mathlib.Core.List.{append-assoc}
+use native.Mathlib.Omega.{arith}
+use Rattle.show.specs.Lines.{stopOf}
+use Rattle.show.proofs.Written.{then, wrote-as}
+use borrow.Author.Needs.{needs}
+use Rattle.show.proofs.put_stop.Statement.{statement}
+use Rattle.show.proofs.put_stop.Tie as tie
+use Rattle.show.proofs.put_stop.Reads as reads
+use Rattle.show.proofs.put_stop.Lts as lts
+use Rattle.show.proofs.put_decimal.Reads as put-decimal-reads
+use Rattle.show.proofs.put_word.Reads as put-word-reads
+
+slice-aggregate-put-word : tie.Need-slice-aggregate-put-word
+slice-aggregate-put-word c = search needs
+
+put-word-requires : tie.Need-put-word-requires
+put-word-requires c κs = search needs
+
+put-decimal-requires : tie.Need-put-decimal-requires
+put-decimal-requires c κs = search needs
+
+slice-aggregate-put-word-2 : tie.Need-slice-aggregate-put-word-2
+slice-aggregate-put-word-2 c = search needs
+
+put-word-requires-2 : tie.Need-put-word-requires-2
+put-word-requires-2 c κs = search needs
+
+put-decimal-requires-2 : tie.Need-put-decimal-requires-2
+put-decimal-requires-2 c κs = search needs
+
+slice-aggregate-put-word-3 : tie.Need-slice-aggregate-put-word-3
+slice-aggregate-put-word-3 c = search needs
+
+put-word-requires-3 : tie.Need-put-word-requires-3
+put-word-requires-3 c κs = search needs
+
+put-decimal-requires-3 : tie.Need-put-decimal-requires-3
+put-decimal-requires-3 c κs = search needs
+
+slice-aggregate-put-word-4 : tie.Need-slice-aggregate-put-word-4
+slice-aggregate-put-word-4 c = search needs
+
+put-word-requires-4 : tie.Need-put-word-requires-4
+put-word-requires-4 c κs = search needs
+
+same-length : tie.Need-same-length
+same-length c = search needs
+
+returns : tie.Need-returns
+unfolding stopOf
+returns c =
+    let seven = c .before .before in
+    let six = seven .before .before .before .before .before in
+    let five = six .before .before .before .before in
+    let four = five .before .before .before .before .before in
+    let three = four .before .before .before .before in
+    let two = three .before .before .before .before .before in
+    let one = two .before .before .before .before in
+    let start = one .before .before .before .before in
+    (wrote-as (simp append-assoc) (then (omega arith) (then (omega arith) (then (omega arith) (then (omega arith) (then (omega arith) (then (omega arith) (one .put-word .ensures) (two .put-decimal .ensures .0)) (three .put-word2 .ensures)) (four .put-decimal2 .ensures .0)) (five .put-word3 .ensures)) (six .put-decimal3 .ensures .0)) (seven .put-word4 .ensures)), omega arith)
+
+pub put-stop-spec : {M : Type 1} → statement M
+put-stop-spec =
+    tie.close
+    (tie.spec
+    slice-aggregate-put-word
+    put-word-requires
+    put-decimal-requires
+    slice-aggregate-put-word-2
+    put-word-requires-2
+    put-decimal-requires-2
+    slice-aggregate-put-word-3
+    put-word-requires-3
+    put-decimal-requires-3
+    slice-aggregate-put-word-4
+    put-word-requires-4
+    same-length
+    returns)
