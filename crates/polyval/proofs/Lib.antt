@@ -7,3 +7,4 @@ pub mod Powers
 pub mod Check
 pub mod Range
 pub mod Groups
+pub mod Alone

@@ -1,0 +1,63 @@
+-- No blocks on any route, and lone blocks one list after the other. Assumes nothing.
+use mathlib.Core.Path.{_≡_, refl, sym, ap, _∙_}
+use mathlib.Core.List.{List, [], _∷_, _++_}
+use Prim.Native.Nat.{ℕ, _/_}
+use native.Mathlib.Omega.{arith}
+use lib.ListN.{length}
+use Rattle.field.specs.declared.rf.Counted.{Counted}
+use Rattle.field.specs.Element.{value}
+use Rattle.field.specs.Rf.{counted}
+use Rattle.field.proofs.Element.{Sized, value-lt, value-element, element-value}
+use Rattle.polyval.specs.declared.key.Power.{Power}
+use Rattle.polyval.specs.declared.key.ExpandedKey.{ExpandedKey}
+use Rattle.polyval.specs.declared.route.Route.{Route}
+use Rattle.polyval.specs.declared.route.Route.the-variants.{Wide, Narrow, Rf}
+use Rattle.polyval.specs.Machine.{run}
+use Rattle.polyval.specs.Key.{hOf}
+use Rattle.polyval.specs.Formulas.{groupOf, groupsOf, rfRun, inGroups, alone}
+use Rattle.polyval.specs.Routes.{absorbOn}
+use Rattle.polyval.proofs.Run.{run-lt, run-++}
+
+-- lone blocks on the R/F route, one after the other
+pub lone-run : (ps : List Power) (held : Counted) (xs : List ℕ) → rfRun alone ps held xs ≡ groupsOf (length xs) 1 ps held xs
+unfolding rfRun
+lone-run ps held xs = let e : length xs / 1 ≡ length xs = omega arith in ap (λ k. groupsOf k 1 ps held xs) e
+
+lone-++ : (ps : List Power) (held : Counted) (xs ys : List ℕ) → groupsOf (length (xs ++ ys)) 1 ps held (xs ++ ys) ≡ groupsOf (length ys) 1 ps (groupsOf (length xs) 1 ps held xs) ys
+unfolding groupsOf
+lone-++ ps held [] ys = refl
+lone-++ ps held (x ∷ xs) ys = lone-++ ps (groupOf ps held (x ∷ [])) xs ys
+
+module _ (key : ExpandedKey) (held : Counted) (sized : Sized (held .element)) where
+  -- no block leaves the element as it is
+  plain-none : counted (run (value (hOf key)) (value (held .element)) []) (held .multiplies) ≡ held
+  unfolding run
+  plain-none = λ i. record { element = element-value (held .element) sized i; multiplies = held .multiplies }
+
+  pub groups-none-on : (route : Route) → absorbOn route inGroups key held [] ≡ held
+  unfolding rfRun groupsOf
+  groups-none-on Wide = plain-none
+  groups-none-on Narrow = plain-none
+  groups-none-on Rf = refl
+
+  pub alone-none : (route : Route) → absorbOn route alone key held [] ≡ held
+  unfolding rfRun groupsOf
+  alone-none Wide = plain-none
+  alone-none Narrow = plain-none
+  alone-none Rf = refl
+
+  -- first xs, then ys
+  plain-++ : (xs ys : List ℕ) → counted (run (value (hOf key)) (value (held .element)) (xs ++ ys)) (held .multiplies)
+      ≡ counted (run (value (hOf key)) (value (counted (run (value (hOf key)) (value (held .element)) xs) (held .multiplies) .element)) ys) (held .multiplies)
+  plain-++ xs ys =
+      let h : ℕ = value (hOf key) in
+      let s : ℕ = value (held .element) in
+      ap (λ n. counted n (held .multiplies))
+      (run-++ h s xs ys ∙ ap (λ n. run h n ys) (sym (value-element (run h s xs) (run-lt h s xs (value-lt (held .element) sized)))))
+
+  pub alone-++ : (route : Route) (xs ys : List ℕ) → absorbOn route alone key held (xs ++ ys) ≡ absorbOn route alone key (absorbOn route alone key held xs) ys
+  alone-++ Wide xs ys = plain-++ xs ys
+  alone-++ Narrow xs ys = plain-++ xs ys
+  alone-++ Rf xs ys =
+      lone-run (key .powers) held (xs ++ ys) ∙ lone-++ (key .powers) held xs ys
+      ∙ ap (λ c. groupsOf (length ys) 1 (key .powers) c ys) (sym (lone-run (key .powers) held xs)) ∙ sym (lone-run (key .powers) (rfRun alone (key .powers) held xs) ys)
