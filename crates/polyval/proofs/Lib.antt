@@ -8,3 +8,7 @@ pub mod Check
 pub mod Range
 pub mod Groups
 pub mod Alone
+pub mod Sums
+pub mod Agree
+pub mod Cost
+pub mod Unique

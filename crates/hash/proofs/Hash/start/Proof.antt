@@ -43,7 +43,7 @@ returns-2 : tie.Need-returns-2
 returns-2 c =
     let k = c .before .before .before .before .before .before .args .key .now in
     let long : length k ≡ 16 = c .before .before .before .before .if1 .left in
-    let e = c .before .before .expand .ensures ∙ ap expandedOf (c .before .before .before .block-of .ensures ∙ ap number (take-all 16 k (omega arith))) in
+    let e = c .before .before .expand .ensures ∙ ap expandedOf (c .before .before .before .block-of .ensures .whole ∙ ap number (take-all 16 k (omega arith))) in
     c .holding .ensures ∙ (λ i. holding (e i .key) (counted 0 (e i .multiplies)) [])
     ∙ sym (ap (λ t. fedOr (cond (not t) keyLength done) (holding (keyOf (number k)) (counted 0 expansionCost) [])) (eq-eqb (length k) 16 long))
 
