@@ -1,4 +1,4 @@
--- Laws of the state as four words. Assumes nothing.
+-- Laws of the state as four words, and of the rounds on it. Assumes nothing.
 use mathlib.Core.Path.{_≡_, refl, sym, ap, ap₂, _∙_}
 use mathlib.Core.List.{List, [], _∷_, _++_}
 use Prim.Native.Nat.{ℕ, zero, suc, _+_, _-_, _*_, _/_, _%_, _^_, _≤_, _<_}
@@ -51,19 +51,18 @@ pub rows : (x : ℕ) → x % 256 ∷ x / 2 ^ 8 % 256 ∷ x / 2 ^ 16 % 256 ∷ x 
 unfolding bytesOf
 rows x = λ i. x % 256 ∷ row1 x i ∷ row2 x i ∷ row3 x i ∷ []
 
-pub bytes-four : (a b c d : ℕ) → a < 256 → b < 256 → c < 256 → d < 256 → bytesOf 4 (a + b * 256 + c * 65536 + d * 16777216) ≡ a ∷ b ∷ c ∷ d ∷ []
-unfolding number
-bytes-four a b c d ha hb hc hd =
-    let e : a + b * 256 + c * 65536 + d * 16777216 ≡ number (a ∷ b ∷ c ∷ d ∷ []) = omega arith in
-    ap (bytesOf 4) e ∙ bytesOf-number (a ∷ b ∷ c ∷ d ∷ []) (ha, (hb, (hc, (hd, tt))))
+-- a word by its bytes
+module _ (a b c d : ℕ) (ha : a < 256) (hb : b < 256) (hc : c < 256) (hd : d < 256) where
+  bytes : (x : ℕ) → x ≡ number (a ∷ b ∷ c ∷ d ∷ []) → bytesOf 4 x ≡ a ∷ b ∷ c ∷ d ∷ []
+  bytes x e = ap (bytesOf 4) e ∙ bytesOf-number (a ∷ b ∷ c ∷ d ∷ []) (ha, (hb, (hc, (hd, tt))))
+
+  pub bytes-sum : bytesOf 4 (a + b * 256 + c * 65536 + d * 16777216) ≡ a ∷ b ∷ c ∷ d ∷ []
+  unfolding number
+  bytes-sum = bytes (a + b * 256 + c * 65536 + d * 16777216) (omega arith)
 
 -- a word turned left by k bits, with 32 - k = j
 abbrev pub turned : (j k x : ℕ) → ℕ
 turned j k x = bitOr (x * 2 ^ k % 2 ^ 32) (x / 2 ^ j)
-
-module _ (a b c d : ℕ) (ha : a < 256) (hb : b < 256) (hc : c < 256) (hd : d < 256) where
-  bytes : (x : ℕ) → x ≡ number (a ∷ b ∷ c ∷ d ∷ []) → bytesOf 4 x ≡ a ∷ b ∷ c ∷ d ∷ []
-  bytes x e = ap (bytesOf 4) e ∙ bytesOf-number (a ∷ b ∷ c ∷ d ∷ []) (ha, (hb, (hc, (hd, tt))))
 
 -- a word turned by one, two and three bytes
 module _ (a b c d : ℕ) (ha : a < 256) (hb : b < 256) (hc : c < 256) (hd : d < 256) where

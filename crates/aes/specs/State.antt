@@ -1,6 +1,6 @@
 -- A state of FIPS 197, which is a list of 16 bytes, as the four words that hold it. Assumes nothing.
-use Prim.Native.Nat.{ℕ}
 use mathlib.Core.List.{List, _++_}
+use Prim.Native.Nat.{ℕ}
 use lib.ListN.{getD}
 use Rattle.gf2.specs.Bytes.{bytesOf}
 use Rattle.aes.specs.declared.rounds.State.{State}

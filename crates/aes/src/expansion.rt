@@ -1,4 +1,6 @@
 // The key expansion, FIPS 197 section 5.2, on the schedule's bytes: word i at 4 i.
+use crate::Schedule128;
+use crate::Schedule256;
 ghost use mathlib.Core.Path.{_≡_};
 ghost use mathlib.Core.List.{[], _∷_, _++_};
 ghost use Prim.Native.Nat.{_+_, _-_, _*_, _≤_, _<_};
@@ -64,7 +66,7 @@ fn temp(t: [u8; 4], i: usize, nk: usize, table: &[u8; 256]) -> [u8; 4]
 }
 
 // The bytes of src go to dst, from at on.
-pub fn put(dst: &mut [u8], at: usize, src: &[u8])
+fn put(dst: &mut [u8], at: usize, src: &[u8])
     requires { ⌜ at + length (now src) ≤ length (now dst) ⌝ }
     ensures { λ _. ⌜ now (dst .exit) ≡ take at (now (dst .entry)) ++ (now (src .entry) ++ drop (at + length (now (src .entry))) (now (dst .entry))) ⌝ }
 {
@@ -76,7 +78,7 @@ pub fn put(dst: &mut [u8], at: usize, src: &[u8])
 }
 
 // Makes the n words of w from the first nk, which are the key.
-pub fn expand(w: &mut [u8], nk: usize, n: usize)
+fn expand(w: &mut [u8], nk: usize, n: usize)
     requires { ⌜ (0 < nk) × (nk ≤ n) × (length (now w) ≡ 4 * n) ⌝ }
     ensures { λ _. ⌜ now (w .exit) ≡ fips.expand nk (take (4 * nk) (now (w .entry))) (n - nk) ⌝ }
 {
@@ -87,4 +89,24 @@ pub fn expand(w: &mut [u8], nk: usize, n: usize)
         put(w, 4 * i, &next);
         i += 1;
     }
+}
+
+// The schedule of a key of 16 bytes.
+pub fn expand128(key: [u8; 16]) -> Schedule128
+    ensures { λ r. ⌜ r .bytes ≡ fips.keyExpansion 4 10 key ⌝ }
+{
+    let mut w = [0u8; 176];
+    put(&mut w, 0, &key);
+    expand(&mut w, 4, 44);
+    Schedule128 { bytes: w }
+}
+
+// The schedule of a key of 32 bytes.
+pub fn expand256(key: [u8; 32]) -> Schedule256
+    ensures { λ r. ⌜ r .bytes ≡ fips.keyExpansion 8 14 key ⌝ }
+{
+    let mut w = [0u8; 240];
+    put(&mut w, 0, &key);
+    expand(&mut w, 8, 60);
+    Schedule256 { bytes: w }
 }

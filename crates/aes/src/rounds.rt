@@ -1,5 +1,7 @@
 // The rounds of the cipher, FIPS 197 section 5.1. SubBytes, ShiftRows and MixColumns are taken at once, from the table of words: a row's
 // share of a column is row 0's, turned by as many bytes.
+use crate::Schedule128;
+use crate::Schedule256;
 ghost use mathlib.Core.Path.{_≡_};
 ghost use mathlib.Core.List.{[], _∷_};
 ghost use Prim.Native.Nat.{_+_, _*_, _%_, _≤_};
@@ -12,11 +14,11 @@ ghost use Rattle.aes_tables.specs.Words.{mixed0, wordTable};
 ghost use Rattle.aes.specs.State.{row, stateOf};
 
 // A word for each column of the state, its row 0 in the lowest byte.
-pub struct State {
-    pub a: u32,
-    pub b: u32,
-    pub c: u32,
-    pub d: u32,
+struct State {
+    a: u32,
+    b: u32,
+    c: u32,
+    d: u32,
 }
 
 // Four bytes as a word, the lowest first.
@@ -164,7 +166,7 @@ fn to_block(s: State) -> [u8; 16]
 }
 
 // nr rounds under the schedule w.
-pub fn encrypt(block: [u8; 16], w: &[u8], nr: usize) -> [u8; 16]
+fn encrypt(block: [u8; 16], w: &[u8], nr: usize) -> [u8; 16]
     requires { ⌜ (1 ≤ nr) × (16 * nr + 16 ≤ length (now w)) ⌝ }
     ensures { λ o. ⌜ o ≡ fips.cipher nr (now (w .entry)) block ⌝ }
 {
@@ -176,4 +178,19 @@ pub fn encrypt(block: [u8; 16], w: &[u8], nr: usize) -> [u8; 16]
         r += 1;
     }
     to_block(add_round_key(last_columns(s, &words), w, nr))
+}
+
+// The block encrypted under a schedule, whatever its bytes are.
+pub fn encrypt128(schedule: Schedule128, block: [u8; 16]) -> [u8; 16]
+    ensures { λ r. ⌜ r ≡ fips.cipher 10 (schedule .bytes) block ⌝ }
+{
+    let w = schedule.bytes;
+    encrypt(block, &w, 10)
+}
+
+pub fn encrypt256(schedule: Schedule256, block: [u8; 16]) -> [u8; 16]
+    ensures { λ r. ⌜ r ≡ fips.cipher 14 (schedule .bytes) block ⌝ }
+{
+    let w = schedule.bytes;
+    encrypt(block, &w, 14)
 }

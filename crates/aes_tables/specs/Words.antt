@@ -1,6 +1,6 @@
 -- SubBytes and MixColumns of one byte, as a word. FIPS 197 has no such table: it is how the code takes the two steps at once. Assumes nothing.
-use Prim.Native.Nat.{ℕ}
 use mathlib.Core.List.{List, [], _∷_}
+use Prim.Native.Nat.{ℕ}
 use Rattle.gf2.specs.Bytes.{number}
 use Rattle.fips197.specs.Table.{tab}
 use Rattle.fips197.specs.Field.{gmul}

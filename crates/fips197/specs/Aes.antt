@@ -1,6 +1,6 @@
 -- AES by the key's length, FIPS 197 section 5. Assumes nothing.
-use Prim.Native.Nat.{ℕ}
 use mathlib.Core.List.{List}
+use Prim.Native.Nat.{ℕ}
 use lib.ListN.{length}
 use lib.Dec.{eqb}
 use Rattle.fips197.specs.Cipher.{cipher}

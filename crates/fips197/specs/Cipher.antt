@@ -1,7 +1,7 @@
 -- The cipher, FIPS 197 section 5.1. A state is the list of its 16 bytes in the order of the input: row r of column c stands at r + 4 c.
 -- A key schedule is the list of its bytes, the round key of round r at 16 r. Assumes nothing.
-use Prim.Native.Nat.{ℕ, zero, suc, _+_, _*_, _/_, _%_, _-_}
 use mathlib.Core.List.{List, [], _∷_, _++_}
+use Prim.Native.Nat.{ℕ, zero, suc, _+_, _*_, _/_, _%_, _-_}
 use lib.ListN.{getD}
 use Rattle.gf2.specs.Carryless.{_⊕_}
 use Rattle.fips197.specs.Table.{tab}

@@ -1,7 +1,7 @@
 -- The key expansion, FIPS 197 section 5.2. A schedule is the list of its bytes, word i at 4 i. Assumes nothing.
-use Prim.Native.Nat.{ℕ, zero, suc, _+_, _*_, _/_, _%_, _-_}
 use mathlib.Core.List.{List, [], _∷_, _++_}
 use mathlib.Core.Bool.{Bool, true, false}
+use Prim.Native.Nat.{ℕ, zero, suc, _+_, _*_, _/_, _%_, _-_}
 use lib.ListN.{getD}
 use lib.Dec.{eqb, ltb}
 use Rattle.gf2.specs.Carryless.{_⊕_}

@@ -1,6 +1,6 @@
 -- The S-box, FIPS 197 section 5.1.1: the inverse, zero for zero, then an affine map. Assumes nothing.
-use Prim.Native.Nat.{ℕ, zero, suc, _+_, _*_, _/_, _%_, _^_}
 use mathlib.Core.List.{List}
+use Prim.Native.Nat.{ℕ, zero, suc, _+_, _*_, _/_, _%_, _^_}
 use Rattle.fips197.specs.Table.{tab}
 use Rattle.fips197.specs.Field.{inverse}
 

@@ -1,7 +1,7 @@
 -- `vectors_aes::agrees256` meets its contract. Assumes nothing.
+use native.Mathlib.Omega.{arith}
 use lib.ListN.{length-take}
 use borrow.Author.Needs.{needs}
-use native.Mathlib.Omega.{arith}
 use Rattle.vectors_aes.proofs.agrees256.Statement.{statement}
 use Rattle.vectors_aes.proofs.agrees256.Tie as tie
 

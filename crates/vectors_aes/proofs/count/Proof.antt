@@ -1,7 +1,7 @@
 -- `vectors_aes::count` meets its contract. Assumes nothing.
-use borrow.Author.Needs.{needs}
-use lib.ListN.{length}
 use Prim.Native.Nat.{_-_}
+use lib.ListN.{length}
+use borrow.Author.Needs.{needs}
 use Rattle.vectors_aes.proofs.count.Statement.{statement}
 use Rattle.vectors_aes.proofs.count.Tie as tie
 

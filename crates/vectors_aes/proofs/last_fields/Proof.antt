@@ -1,7 +1,7 @@
 -- `vectors_aes::last_fields` meets its contract. Assumes nothing.
+use native.Mathlib.Omega.{arith}
 use lib.ListN.{length-take}
 use borrow.Author.Needs.{needs}
-use native.Mathlib.Omega.{arith}
 use Rattle.vectors_aes.proofs.last_fields.Statement.{statement}
 use Rattle.vectors_aes.proofs.last_fields.Tie as tie
 

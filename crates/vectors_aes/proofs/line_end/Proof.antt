@@ -1,7 +1,7 @@
 -- `vectors_aes::line_end` meets its contract. Assumes nothing.
-use borrow.Author.Needs.{needs}
-use lib.ListN.{length}
 use Prim.Native.Nat.{_-_, _≤_}
+use lib.ListN.{length}
+use borrow.Author.Needs.{needs}
 use Rattle.vectors_aes.proofs.line_end.Statement.{statement}
 use Rattle.vectors_aes.proofs.line_end.Tie as tie
 

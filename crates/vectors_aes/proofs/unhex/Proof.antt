@@ -1,9 +1,9 @@
 -- `vectors_aes::unhex` meets its contract. Assumes nothing.
-use borrow.Author.Needs.{needs}
 use mathlib.Core.Path.{_≡_}
 use Prim.Native.Nat.{_-_, _*_, _≤_}
 use native.Mathlib.Omega.{arith}
 use lib.ListN.{length, length-set}
+use borrow.Author.Needs.{needs}
 use Rattle.vectors_aes.proofs.unhex.Statement.{statement}
 use Rattle.vectors_aes.proofs.unhex.Tie as tie
 

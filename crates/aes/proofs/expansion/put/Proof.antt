@@ -1,10 +1,10 @@
 -- `aes::expansion::put` meets its contract. Assumes nothing.
-use Prim.Native.Nat.{_-_, _≤_}
 use mathlib.Core.Path.{_≡_, refl, _∙_}
+use Prim.Native.Nat.{_-_, _≤_}
 use native.Mathlib.Omega.{arith}
-use borrow.Author.Needs.{needs}
 use lib.ListN.{length}
 use lib.Seq.{paste, paste-zero}
+use borrow.Author.Needs.{needs}
 use Rattle.aes.proofs.Schedule.{copy-turn, copied}
 use Rattle.aes.proofs.expansion.put.Statement.{statement}
 use Rattle.aes.proofs.expansion.put.Tie as tie

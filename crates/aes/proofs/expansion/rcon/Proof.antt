@@ -1,12 +1,12 @@
 -- `aes::expansion::rcon` meets its contract. Assumes nothing.
-use Prim.Native.Nat.{_-_, _≤_, _<_}
 use mathlib.Core.List.{[], _∷_}
-use borrow.Author.Needs.{needs}
-use native.Mathlib.Omega.{arith}
 use mathlib.Core.Path.{_≡_, refl, ap, _∙_}
-use Rattle.aes.proofs.Schedule.{power-lt, power-turn}
-use Rattle.fips197.specs.KeyExpansion.{power}
+use Prim.Native.Nat.{_-_, _≤_, _<_}
+use native.Mathlib.Omega.{arith}
+use borrow.Author.Needs.{needs}
 use Rattle.gf2.specs.Carryless.{_⊕_}
+use Rattle.fips197.specs.KeyExpansion.{power}
+use Rattle.aes.proofs.Schedule.{power-lt, power-turn}
 use Rattle.aes.proofs.expansion.rcon.Statement.{statement}
 use Rattle.aes.proofs.expansion.rcon.Tie as tie
 

@@ -1,11 +1,11 @@
 use mathlib.Core.Path.{refl}
+use borrow.Author.Needs.{needs}
 use Rattle.gf2.specs.Carryless.{_⊕_}
 use Rattle.fips197.specs.KeyExpansion.{sum}
-use borrow.Author.Needs.{needs}
-use Rattle.aes.proofs.expansion.sum.Statement.{statement}
-use Rattle.aes.proofs.expansion.sum.Tie as tie
 use Rattle.aes.proofs.expansion.sum.Reads as reads
 use Rattle.aes.proofs.expansion.sum.Lts as lts
+use Rattle.aes.proofs.expansion.sum.Statement.{statement}
+use Rattle.aes.proofs.expansion.sum.Tie as tie
 
 array-read-t7 : tie.Need-array-read-t7
 array-read-t7 c = search needs

@@ -1,8 +1,8 @@
 -- `aes::rounds::add_round_key` meets its contract. Assumes nothing.
-use borrow.Author.Needs.{needs}
 use mathlib.Core.Path.{refl}
-use Rattle.aes.proofs.Words.{key-law}
+use borrow.Author.Needs.{needs}
 use Rattle.gf2.specs.Carryless.{_⊕_}
+use Rattle.aes.proofs.Words.{key-law}
 use Rattle.aes.proofs.rounds.add_round_key.Statement.{statement}
 use Rattle.aes.proofs.rounds.add_round_key.Tie as tie
 

@@ -1,13 +1,13 @@
 -- `aes::rounds::column` meets its contract. Assumes nothing.
-use Prim.Native.Nat.{ℕ, _/_, _%_, _^_}
 use mathlib.Core.Path.{_∙_}
+use Prim.Native.Nat.{ℕ, _/_, _%_, _^_}
 use borrow.Author.Needs.{needs}
-use Rattle.fips197.proofs.Sbox.{sbox-lt}
-use Rattle.aes.proofs.Words.{row0, row1, row2, row3, turned, column-law}
-use Rattle.fips197.specs.Cipher.{mixColumn}
 use Rattle.gf2.specs.Bytes.{bytesOf}
-use Rattle.fips197.specs.Sbox.{sbox}
 use Rattle.gf2.specs.Carryless.{_⊕_}
+use Rattle.fips197.proofs.Sbox.{sbox-lt}
+use Rattle.fips197.specs.Cipher.{mixColumn}
+use Rattle.fips197.specs.Sbox.{sbox}
+use Rattle.aes.proofs.Words.{row0, row1, row2, row3, turned, column-law}
 use Rattle.aes.proofs.rounds.column.Statement.{statement}
 use Rattle.aes.proofs.rounds.column.Tie as tie
 

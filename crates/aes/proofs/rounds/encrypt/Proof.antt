@@ -1,10 +1,10 @@
 -- `aes::rounds::encrypt` meets its contract. Assumes nothing.
 use mathlib.Core.Path.{_≡_, refl, _∙_}
-use borrow.Author.Needs.{needs}
-use native.Mathlib.Omega.{arith}
 use Prim.Native.Nat.{_-_, _≤_}
-use Rattle.aes.specs.State.{stateOf}
+use native.Mathlib.Omega.{arith}
+use borrow.Author.Needs.{needs}
 use Rattle.fips197.specs.Cipher.{rounds}
+use Rattle.aes.specs.State.{stateOf}
 use Rattle.aes.proofs.Words.{round-turn, last-round}
 use Rattle.aes.proofs.rounds.encrypt.Statement.{statement}
 use Rattle.aes.proofs.rounds.encrypt.Tie as tie

@@ -1,9 +1,9 @@
 -- `aes::rounds::last_column` meets its contract. Assumes nothing.
 use mathlib.Core.List.{[], _∷_}
-use borrow.Author.Needs.{needs}
 use mathlib.Core.Path.{ap, _∙_}
-use Rattle.aes.proofs.Words.{row0, row1, row2, row3}
+use borrow.Author.Needs.{needs}
 use Rattle.fips197.specs.Sbox.{sbox}
+use Rattle.aes.proofs.Words.{row0, row1, row2, row3}
 use Rattle.aes.proofs.rounds.last_column.Statement.{statement}
 use Rattle.aes.proofs.rounds.last_column.Tie as tie
 

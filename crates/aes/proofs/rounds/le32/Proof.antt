@@ -1,11 +1,11 @@
 -- `aes::rounds::le32` meets its contract. Assumes nothing.
 use borrow.Author.Needs.{needs}
-use Rattle.aes.proofs.Words.{bytes-four}
+use Rattle.aes.proofs.Words.{bytes-sum}
 use Rattle.aes.proofs.rounds.le32.Statement.{statement}
 use Rattle.aes.proofs.rounds.le32.Tie as tie
 
 returns : tie.Need-returns
-returns c = let a = c .args in bytes-four (a .a) (a .b) (a .c) (a .d) (search needs) (search needs) (search needs) (search needs)
+returns c = let a = c .args in bytes-sum (a .a) (a .b) (a .c) (a .d) (search needs) (search needs) (search needs) (search needs)
 
 pub le32-spec : {M : Type 1} → statement M
 le32-spec =

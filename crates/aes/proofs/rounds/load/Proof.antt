@@ -1,9 +1,9 @@
 -- `aes::rounds::load` meets its contract. Assumes nothing.
+use mathlib.Core.Path.{_∙_}
+use Prim.Native.Nat.{_+_}
 use native.Mathlib.Nat.{add-assoc}
 use lib.ListN.{getD}
-use mathlib.Core.Path.{_∙_}
 use borrow.Author.Needs.{needs}
-use Prim.Native.Nat.{_+_}
 use Rattle.fips197.specs.Table.{tab}
 use Rattle.aes.proofs.Words.{beside}
 use Rattle.aes.proofs.rounds.load.Statement.{statement}

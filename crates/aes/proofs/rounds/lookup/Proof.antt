@@ -1,6 +1,6 @@
 -- `aes::rounds::lookup` meets its contract. Assumes nothing.
-use borrow.Author.Needs.{needs}
 use Prim.Native.Nat.{_%_}
+use borrow.Author.Needs.{needs}
 use Rattle.aes_tables.proofs.Entry.{word-at}
 use Rattle.aes.proofs.rounds.lookup.Statement.{statement}
 use Rattle.aes.proofs.rounds.lookup.Tie as tie

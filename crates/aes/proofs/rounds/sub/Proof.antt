@@ -1,7 +1,7 @@
 -- `aes::rounds::sub` meets its contract. Assumes nothing.
-use borrow.Author.Needs.{needs}
-use Prim.Native.Nat.{ℕ, _/_, _%_}
 use mathlib.Core.Path.{ap, _∙_}
+use Prim.Native.Nat.{ℕ, _/_, _%_}
+use borrow.Author.Needs.{needs}
 use Rattle.fips197.proofs.Sbox.{sbox-lt}
 use Rattle.fips197.specs.Sbox.{sbox}
 use Rattle.aes.proofs.Words.{middle}

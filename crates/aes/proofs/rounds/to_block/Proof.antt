@@ -1,7 +1,7 @@
 -- `aes::rounds::to_block` meets its contract. Assumes nothing.
 use borrow.Author.Needs.{needs}
-use Rattle.aes.proofs.Words.{sixteen}
 use Rattle.gf2.specs.Bytes.{bytesOf}
+use Rattle.aes.proofs.Words.{sixteen}
 use Rattle.aes.proofs.rounds.to_block.Statement.{statement}
 use Rattle.aes.proofs.rounds.to_block.Tie as tie
 

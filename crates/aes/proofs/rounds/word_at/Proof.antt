@@ -1,10 +1,10 @@
 -- `aes::rounds::word_at` meets its contract. Assumes nothing.
 use mathlib.Core.List.{[], _∷_}
+use mathlib.Core.Path.{sym, _∙_}
+use Prim.Native.Nat.{_+_}
 use native.Mathlib.Nat.{add-zero}
 use lib.ListN.{getD}
-use mathlib.Core.Path.{sym, _∙_}
 use borrow.Author.Needs.{needs}
-use Prim.Native.Nat.{_+_}
 use Rattle.aes.proofs.rounds.word_at.Statement.{statement}
 use Rattle.aes.proofs.rounds.word_at.Tie as tie
 

@@ -1,9 +1,9 @@
--- `aes::expand128` meets its contract. Assumes nothing.
-use borrow.Author.Needs.{needs}
+-- `aes::expansion::expand128` meets its contract. Assumes nothing.
 use lib.ListN.{replicate}
+use borrow.Author.Needs.{needs}
 use Rattle.aes.proofs.Schedule.{schedule-law}
-use Rattle.aes.proofs.expand128.Statement.{statement}
-use Rattle.aes.proofs.expand128.Tie as tie
+use Rattle.aes.proofs.expansion.expand128.Statement.{statement}
+use Rattle.aes.proofs.expansion.expand128.Tie as tie
 
 returns : tie.Need-returns
 returns c =

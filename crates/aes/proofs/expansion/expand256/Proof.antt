@@ -1,9 +1,9 @@
--- `aes::expand256` meets its contract. Assumes nothing.
-use borrow.Author.Needs.{needs}
+-- `aes::expansion::expand256` meets its contract. Assumes nothing.
 use lib.ListN.{replicate}
+use borrow.Author.Needs.{needs}
 use Rattle.aes.proofs.Schedule.{schedule-law}
-use Rattle.aes.proofs.expand256.Statement.{statement}
-use Rattle.aes.proofs.expand256.Tie as tie
+use Rattle.aes.proofs.expansion.expand256.Statement.{statement}
+use Rattle.aes.proofs.expansion.expand256.Tie as tie
 
 returns : tie.Need-returns
 returns c =
