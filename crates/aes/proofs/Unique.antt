@@ -1,20 +1,25 @@
--- Two answers that meet a promise are equal. Assumes nothing.
-use mathlib.Core.Path.{_≡_, sym, ap, _∙_}
+-- For each public function, two answers that meet its contract, as the checker reads it, are equal. Assumes nothing.
+use mathlib.Core.Path.{sym, ap, _∙_}
 use mathlib.Core.List.{List}
 use Prim.Native.Nat.{ℕ}
-use Rattle.fips197.specs.Cipher.{cipher}
-use Rattle.fips197.specs.KeyExpansion.{keyExpansion}
-use Rattle.aes.specs.declared.Schedule128.{Schedule128}
-use Rattle.aes.specs.declared.Schedule256.{Schedule256}
+use Rattle.gf2.proofs.Promise.{Unique}
+use Rattle.aes.proofs.expansion.expand128.Kinds as expand128-kinds
+use Rattle.aes.proofs.expansion.expand128.Reads as expand128-reads
+use Rattle.aes.proofs.expansion.expand256.Kinds as expand256-kinds
+use Rattle.aes.proofs.expansion.expand256.Reads as expand256-reads
+use Rattle.aes.proofs.rounds.encrypt128.Kinds as encrypt128-kinds
+use Rattle.aes.proofs.rounds.encrypt128.Reads as encrypt128-reads
+use Rattle.aes.proofs.rounds.encrypt256.Kinds as encrypt256-kinds
+use Rattle.aes.proofs.rounds.encrypt256.Reads as encrypt256-reads
 
-pub unique-expand128 : (key : List ℕ) (r r′ : Schedule128) → r .bytes ≡ keyExpansion 4 10 key → r′ .bytes ≡ keyExpansion 4 10 key → r ≡ r′
-unique-expand128 key r r′ p q = ap (λ (w : List ℕ). record { bytes = w }) (p ∙ sym q)
+pub expand128-unique : Unique 0 expand128-kinds.ps expand128-kinds.r expand128-reads.Post
+expand128-unique κs a x y e f p q = ap (λ (w : List ℕ). record { bytes = w }) (p ∙ sym q)
 
-pub unique-expand256 : (key : List ℕ) (r r′ : Schedule256) → r .bytes ≡ keyExpansion 8 14 key → r′ .bytes ≡ keyExpansion 8 14 key → r ≡ r′
-unique-expand256 key r r′ p q = ap (λ (w : List ℕ). record { bytes = w }) (p ∙ sym q)
+pub expand256-unique : Unique 0 expand256-kinds.ps expand256-kinds.r expand256-reads.Post
+expand256-unique κs a x y e f p q = ap (λ (w : List ℕ). record { bytes = w }) (p ∙ sym q)
 
-pub unique-encrypt128 : (schedule : Schedule128) (block r r′ : List ℕ) → r ≡ cipher 10 (schedule .bytes) block → r′ ≡ cipher 10 (schedule .bytes) block → r ≡ r′
-unique-encrypt128 schedule block r r′ p q = p ∙ sym q
+pub encrypt128-unique : Unique 0 encrypt128-kinds.ps encrypt128-kinds.r encrypt128-reads.Post
+encrypt128-unique κs a x y e f p q = p ∙ sym q
 
-pub unique-encrypt256 : (schedule : Schedule256) (block r r′ : List ℕ) → r ≡ cipher 14 (schedule .bytes) block → r′ ≡ cipher 14 (schedule .bytes) block → r ≡ r′
-unique-encrypt256 schedule block r r′ p q = p ∙ sym q
+pub encrypt256-unique : Unique 0 encrypt256-kinds.ps encrypt256-kinds.r encrypt256-reads.Post
+encrypt256-unique κs a x y e f p q = p ∙ sym q

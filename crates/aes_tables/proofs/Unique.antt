@@ -1,12 +1,13 @@
--- Two tables that meet a promise are equal. Assumes nothing.
-use mathlib.Core.Path.{_≡_, sym, _∙_}
-use mathlib.Core.List.{List}
-use Prim.Native.Nat.{ℕ}
-use Rattle.fips197.specs.Sbox.{sboxTable}
-use Rattle.aes_tables.specs.Words.{wordTable}
+-- For each public function, two answers that meet its contract, as the checker reads it, are equal. Assumes nothing.
+use mathlib.Core.Path.{sym, _∙_}
+use Rattle.gf2.proofs.Promise.{Unique}
+use Rattle.aes_tables.proofs.sbox_table.Kinds as sbox-table-kinds
+use Rattle.aes_tables.proofs.sbox_table.Reads as sbox-table-reads
+use Rattle.aes_tables.proofs.word_table.Kinds as word-table-kinds
+use Rattle.aes_tables.proofs.word_table.Reads as word-table-reads
 
-pub unique-sbox-table : (r r′ : List ℕ) → r ≡ sboxTable → r′ ≡ sboxTable → r ≡ r′
-unique-sbox-table r r′ p q = p ∙ sym q
+pub sbox-table-unique : Unique 0 sbox-table-kinds.ps sbox-table-kinds.r sbox-table-reads.Post
+sbox-table-unique κs a x y e f p q = p ∙ sym q
 
-pub unique-word-table : (r r′ : List ℕ) → r ≡ wordTable → r′ ≡ wordTable → r ≡ r′
-unique-word-table r r′ p q = p ∙ sym q
+pub word-table-unique : Unique 0 word-table-kinds.ps word-table-kinds.r word-table-reads.Post
+word-table-unique κs a x y e f p q = p ∙ sym q
