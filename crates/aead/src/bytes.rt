@@ -3,7 +3,8 @@ ghost use mathlib.Core.Path.{_≡_};
 ghost use Prim.Native.Nat.{min};
 ghost use Rattle.aead.specs.Bytes.{xorBytes, copied, sameBytes};
 
-fn shorter(a: usize, b: usize) -> usize
+// The smaller of two lengths.
+pub fn shorter(a: usize, b: usize) -> usize
     ensures { λ r. ⌜ r ≡ min a b ⌝ }
 {
     if a < b { a } else { b }

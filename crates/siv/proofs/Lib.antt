@@ -1,0 +1,3 @@
+-- Laws that the functions' proofs share, and the theorems on sealing and opening.
+pub mod Counting
+pub mod Deriving

@@ -1,11 +1,15 @@
 -- The keys of one message, RFC 8452 section 4, "derive_keys". Assumes nothing.
 use Prim.Native.Nat.{ℕ}
+use mathlib.Core.Path.{_≡_}
 use mathlib.Core.Bool.{cond}
 use mathlib.Core.List.{List, _++_}
 use lib.Dec.{eqb}
 use lib.ListN.{length, take}
-use Rattle.gf2.specs.Bytes.{bytesOf}
+use Rattle.gf2.specs.Bytes.{number, bytesOf}
 use Rattle.fips197.specs.Aes.{aes}
+use Rattle.field.specs.Element.{value}
+use Rattle.aead.specs.Cipher.{encrypted}
+use Rattle.siv.specs.declared.keys.Keys.{Keys}
 
 -- "AES(key = key_generating_key, block = little_endian_uint32(i) ++ nonce)[:8]"
 abbrev pub derivedBy : (cipher : List ℕ → List ℕ) (nonce : List ℕ) (i : ℕ) → List ℕ
@@ -23,3 +27,8 @@ hashKey key nonce = pairBy (aes key) nonce 0 1
 unfoldable pub cipherKey : (key nonce : List ℕ) → List ℕ
 cipherKey key nonce =
     cond (eqb (length key) 32) (pairBy (aes key) nonce 2 3 ++ pairBy (aes key) nonce 4 5) (pairBy (aes key) nonce 2 3)
+
+-- the keys as the code holds them: a field element, and a cipher with its schedule
+pub record Derived (key nonce : List ℕ) (k : Keys) : Type 0 where
+  pub hash : value (k .hash) ≡ number (hashKey key nonce)
+  pub cipher : encrypted (k .cipher) ≡ aes (cipherKey key nonce)

@@ -1,5 +1,5 @@
 -- The tag of a message, RFC 8452 section 4, under a hash key h and a block cipher. Assumes nothing.
-use Prim.Native.Nat.{ℕ, _*_}
+use Prim.Native.Nat.{ℕ, _*_, _^_, _<_}
 use mathlib.Core.List.{List, _++_}
 use lib.Bits.{bitAnd}
 use lib.ListN.{length, getD, set}
@@ -26,3 +26,8 @@ tagBlock nonce s = withoutTop (xorBytes (bytesOf 16 s) nonce)
 -- "tag = AES(key = message_encryption_key, block = S_s)"
 unfoldable pub tagUnder : (h : ℕ) (cipher : List ℕ → List ℕ) (nonce ad text : List ℕ) → List ℕ
 tagUnder h cipher nonce ad text = cipher (tagBlock nonce (hashed h ad text))
+
+-- both lengths in bits fit a word
+pub record Counts (ad text : ℕ) : Type 0 where
+  pub first : ad * 8 < 2 ^ 64
+  pub second : text * 8 < 2 ^ 64

@@ -1,1 +1,4 @@
-// AES-GCM-SIV, RFC 8452 sections 4 and 5. The definitions that the calls will promise are in specs/.
+// AES-GCM-SIV, RFC 8452 sections 4 and 5: sealing and opening with keys of 16 and 32 bytes.
+mod counter;
+mod keys;
+mod tag;
