@@ -1,3 +1,4 @@
 -- Laws that the functions' proofs share, and the theorems on sealing and opening.
 pub mod Counting
 pub mod Deriving
+pub mod Hashing
