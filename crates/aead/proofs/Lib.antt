@@ -8,3 +8,4 @@ pub mod Modes
 pub mod Refusals
 pub mod Done
 pub mod Trips
+pub mod Written

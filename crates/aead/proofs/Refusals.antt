@@ -1,10 +1,10 @@
 -- The answers of sealing and opening: what both ask first decides, or is passed over. Assumes nothing.
 use Prim.Native.Nat.{ℕ, _+_, _-_, _≤_, _<_}
-use mathlib.Core.Path.{_≡_, sym, ap}
-use mathlib.Core.Bool.{Bool, true, false, not}
+use mathlib.Core.Path.{_≡_, refl, sym, ap, _∙_}
+use mathlib.Core.Bool.{Bool, true, false, not, cond}
 use mathlib.Core.List.{List, [], _∷_, _++_}
-use borrow.Author.Tests.{lt-ltb, le-ltb, eq-eqb, ne-eqb}
-use lib.Dec.{ltb, lit<}
+use borrow.Author.Tests.{lt-ltb, le-ltb, eq-eqb, ne-eqb, eqb-true, eqb-false}
+use lib.Dec.{eqb, ltb, lit<}
 use Rattle.answer.specs.Answers.{textTooLong, sealedTooShort, noRoom, tagDiffers}
 use Rattle.answer.specs.Limits.{maxPlaintext, maxSealed}
 use Rattle.answer.specs.First.{Refusal, _⇒_, first}
@@ -63,3 +63,29 @@ module _ (key nonce ad : ℕ) where
 
   pub open-room : (sealed room place : ℕ) (a : Bool) → sealed - 16 ≤ room → sealed - 16 ≤ place → openAnswer key nonce ad sealed room a ≡ openAnswer key nonce ad sealed place a
   open-room sealed room place a h k = rw (le-ltb room (sealed - 16) h, le-ltb place (sealed - 16) k)
+
+-- opening asks of lengths first, and of the tag last
+module _ (key nonce ad sealed room : ℕ) where
+  abbrev lengths : List Refusal
+  lengths = commonRefusals key nonce ad ++ (ltb sealed 16 ⇒ sealedTooShort ∷ ltb maxSealed sealed ⇒ textTooLong ∷ ltb room (sealed - 16) ⇒ noRoom ∷ [])
+
+  by-tag : (b : Bool) → first lengths ≡ 0 → openAnswer key nonce ad sealed room b ≡ cond (not b) tagDiffers 0
+  unfolding Told
+  by-tag b e = passed-over lengths (not b ⇒ tagDiffers ∷ []) (all-passed lengths (lit< tt, (lit< tt, (lit< tt, (lit< tt, (lit< tt, (lit< tt, tt)))))) e)
+
+  by-lengths : (b : Bool) → (first lengths ≡ 0 → ⊥) → openAnswer key nonce ad sealed room b ≡ first lengths
+  by-lengths b h = refused-before lengths (not b ⇒ tagDiffers ∷ []) h
+
+  -- what is refused whatever the tag
+  pub refused-early : (b : Bool) → (openAnswer key nonce ad sealed room true ≡ 0 → ⊥) → openAnswer key nonce ad sealed room true ≡ openAnswer key nonce ad sealed room b
+  refused-early b h =
+      let g : first lengths ≡ 0 → ⊥ = λ e. h (by-tag true e) in
+      by-lengths true g ∙ sym (by-lengths b g)
+
+  -- what only the tag refuses
+  pub refused-by-tag : openAnswer key nonce ad sealed room true ≡ 0 → openAnswer key nonce ad sealed room false ≡ tagDiffers
+  refused-by-tag e = by-tag false (by-zero (eqb (first lengths) 0) refl)
+    where
+      by-zero : (b : Bool) → eqb (first lengths) 0 ≡ b → first lengths ≡ 0
+      by-zero true t = eqb-true (first lengths) 0 t
+      by-zero false t = sym (by-lengths true (eqb-false (first lengths) 0 t)) ∙ e

@@ -1,9 +1,9 @@
 -- The pieces of a derived key, as code puts them together. Assumes nothing.
 use Prim.Native.Nat.{ℕ, _/_, _%_, _<_}
-use mathlib.Core.Path.{_≡_, refl, ap, ap₂, _∙_}
-use mathlib.Core.List.{List, [], _∷_, _++_, append-nil}
+use mathlib.Core.Path.{_≡_, ap, ap₂, _∙_}
+use mathlib.Core.List.{List, _∷_, _++_, append-nil}
 use native.Mathlib.Omega.{arith}
-use lib.ListN.{length, take, drop, replicate, drop-of-length-le, length-drop}
+use lib.ListN.{length, take, drop, replicate}
 use lib.Seq.{take-all, take-at, drop-at}
 use Rattle.gf2.specs.Bytes.{bytesOf}
 use Rattle.gf2.proofs.Bytes.{cells, cells-part}

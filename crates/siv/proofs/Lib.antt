@@ -2,3 +2,5 @@
 pub mod Counting
 pub mod Deriving
 pub mod Hashing
+pub mod Writing
+pub mod Sealing

@@ -5,7 +5,6 @@ use field::FieldElement;
 ghost use mathlib.Core.Path.{_≡_};
 ghost use mathlib.Core.List.{_++_};
 ghost use mathlib.Core.Logic.{_⊎_};
-ghost use Prim.Native.Nat.{_+_, _<_};
 ghost use lib.ListN.{length, take};
 ghost use Rattle.gf2.specs.Bytes.{number, bytesOf};
 ghost use Rattle.field.specs.Element.{value};
@@ -70,7 +69,10 @@ fn halves(a: [u8; 16], b: [u8; 16]) -> [u8; 16]
 fn pair(given: Cipher, nonce: [u8; 12], i: u8, j: u8) -> [u8; 16]
     ensures { λ r. ⌜ r ≡ pairBy (encrypted given) nonce i j ⌝ }
 {
-    halves(given.encrypt(numbered(i, nonce)), given.encrypt(numbered(j, nonce)))
+    halves(
+        given.encrypt(numbered(i, nonce)),
+        given.encrypt(numbered(j, nonce)),
+    )
 }
 
 // A key of 32 bytes from its halves.

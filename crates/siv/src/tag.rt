@@ -1,11 +1,11 @@
 // The tag of a message (RFC 8452 section 4), from its text or from the masked text that a sealed part holds.
-use aead::bytes;
 use crate::counter;
 use crate::keys::Keys;
+use aead::bytes;
 use field::FieldElement;
 use polyval::soft;
 ghost use mathlib.Core.Path.{_≡_};
-ghost use Prim.Native.Nat.{_*_, _^_, _<_};
+ghost use Prim.Native.Nat.{_*_, _<_};
 ghost use lib.ListN.{length, take};
 ghost use Rattle.field.specs.Element.{value, element};
 ghost use Rattle.polyval.specs.Machine.{run};
@@ -90,7 +90,13 @@ fn absorb_masked(keys: Keys, start: [u8; 16], acc: FieldElement, body: &[u8]) ->
 }
 
 // The tag of the text that a body hides under a tag.
-pub(crate) fn body_tag(keys: Keys, nonce: [u8; 12], ad: &[u8], tag: [u8; 16], body: &[u8]) -> [u8; 16]
+pub(crate) fn body_tag(
+    keys: Keys,
+    nonce: [u8; 12],
+    ad: &[u8],
+    tag: [u8; 16],
+    body: &[u8],
+) -> [u8; 16]
     requires { ⌜ Counts (length (now ad)) (length (now body)) ⌝ }
     ensures { λ r. ⌜ r ≡ tagUnder (value (keys .hash)) (encrypted (keys .cipher)) nonce (now (ad .entry)) (maskUnder (encrypted (keys .cipher)) tag (now (body .entry))) ⌝ }
 {

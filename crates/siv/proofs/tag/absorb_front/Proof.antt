@@ -12,7 +12,6 @@ use borrow.Author.Needs.{needs}
 use Rattle.siv.proofs.tag.absorb_front.Statement.{statement}
 use Rattle.siv.proofs.tag.absorb_front.Tie as tie
 
-
 slice-aggregate-absorb : tie.Need-slice-aggregate-absorb
 slice-aggregate-absorb c = sym (length-take-le (c .before .shorter .result) (c .before .before .before .xor-into .last .1 .0) (omega arith))
 

@@ -1,7 +1,5 @@
 -- `siv::tag::text_tag` meets its contract. Assumes nothing.
-use Prim.Native.Nat.{ℕ}
 use mathlib.Core.Path.{ap, _∙_}
-use mathlib.Core.List.{List}
 use lib.ListN.{length}
 use Rattle.field.specs.Element.{value, element}
 use Rattle.polyval.specs.Machine.{run}
