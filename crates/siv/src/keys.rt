@@ -2,12 +2,12 @@
 use aead::bytes;
 use aead::cipher::Cipher;
 use field::FieldElement;
+use polyval::block;
 ghost use mathlib.Core.Path.{_≡_};
 ghost use mathlib.Core.List.{_++_};
 ghost use mathlib.Core.Logic.{_⊎_};
 ghost use lib.ListN.{length, take};
-ghost use Rattle.gf2.specs.Bytes.{number, bytesOf};
-ghost use Rattle.field.specs.Element.{value};
+ghost use Rattle.gf2.specs.Bytes.{bytesOf};
 ghost use Rattle.aead.specs.Cipher.{encrypted};
 ghost use Rattle.siv.specs.Keys.{pairBy, Derived};
 
@@ -85,16 +85,6 @@ fn joined(low: [u8; 16], high: [u8; 16]) -> [u8; 32]
     key
 }
 
-// Sixteen bytes as an element.
-fn element_of(b: &[u8]) -> FieldElement
-    requires { ⌜ length (now b) ≡ 16 ⌝ }
-    ensures { λ r. ⌜ value r ≡ number (now (b .entry)) ⌝ }
-{
-    let mut block = [0u8; 16];
-    bytes::copy(b, &mut block);
-    FieldElement::from_bytes(block)
-}
-
 // The keys that the given one and the nonce make.
 pub(crate) fn derive(key: &[u8], nonce: [u8; 12]) -> Keys
     requires { ⌜ (length (now key) ≡ 16) ⊎ (length (now key) ≡ 32) ⌝ }
@@ -102,7 +92,7 @@ pub(crate) fn derive(key: &[u8], nonce: [u8; 12]) -> Keys
 {
     let given = Cipher::under(key);
     let authentication = pair(given, nonce, 0, 1);
-    let hash = element_of(&authentication);
+    let hash = block::block_of(&authentication);
     let low = pair(given, nonce, 2, 3);
     if key.len() == 32 {
         let high = pair(given, nonce, 4, 5);

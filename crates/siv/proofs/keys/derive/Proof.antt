@@ -1,9 +1,11 @@
 -- `siv::keys::derive` meets its contract. Assumes nothing.
-use Prim.Native.Nat.{ℕ}
+use Prim.Native.Nat.{ℕ, _≤_}
+use native.Mathlib.Omega.{arith}
 use mathlib.Core.Path.{_≡_, sym, ap, ap₂, _∙_}
 use mathlib.Core.List.{List, _++_}
 use borrow.Author.Tests.{eq-eqb, ne-eqb}
 use lib.ListN.{length}
+use lib.Seq.{take-all}
 use Rattle.gf2.specs.Bytes.{number}
 use Rattle.fips197.specs.Aes.{aes}
 use Rattle.field.specs.Element.{value}
@@ -21,12 +23,14 @@ given-is-aes c = ap encrypted (c .under .ensures) ∙ under-is-aes (c .before .b
 -- the hash key, and the half of the cipher key that every key gives
 hash-is : (c : tie.After-pair2) →
     let a = c .before .before .before .before .before .before .args in
-    value (c .before .element-of .result) ≡ number (hashKey (a .key .now) (a .nonce))
+    value (c .before .block-of .result) ≡ number (hashKey (a .key .now) (a .nonce))
 unfolding hashKey
 hash-is c =
     let a = c .before .before .before .before .before .before .args in
-    c .before .element-of .ensures
-    ∙ ap number (c .before .before .before .pair .ensures ∙ ap (λ (f : List ℕ → List ℕ). pairBy f (a .nonce) 0 1) (given-is-aes (c .before .before .before .before)))
+    let pair = c .before .before .before .pair in
+    let whole : length (pair .result) ≤ 16 = omega arith in
+    c .before .block-of .ensures ∙ ap number (take-all 16 (pair .result) whole)
+    ∙ ap number (pair .ensures ∙ ap (λ (f : List ℕ → List ℕ). pairBy f (a .nonce) 0 1) (given-is-aes (c .before .before .before .before)))
 
 low-is : (c : tie.After-pair2) →
     let a = c .before .before .before .before .before .before .args in
