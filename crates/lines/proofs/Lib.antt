@@ -1,0 +1,4 @@
+pub mod Laws
+pub mod ReadBack
+pub mod Cases
+pub mod Unique

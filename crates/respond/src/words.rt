@@ -1,0 +1,260 @@
+// The words of a line, read by the letters of a request. Each word fills a slot: where its bytes begin and end in
+// the arena, and its number. A word that is not what its letter asks for is noted, and reading goes on.
+//
+// The letters: e an element, 16 bytes; k a stored key; b bytes; x and y words of 16 and of 8 hex digits; n a number;
+// t a route. A capital asks for the same before a colon, as a part of a record.
+use field::FieldElement;
+use lines::Number;
+
+// Room for the slots of the longest request, three numbers each.
+pub(crate) const SLOTS: usize = 27;
+
+// The bytes of a stored key: each power of H and its D value.
+const KEY: usize = 32 * polyval::key::POWERS;
+
+// Stands for a length that is free.
+const ANY: usize = usize::MAX;
+
+// Reading stands before the space or colon at `at`, or at the line's end; `fill` bytes of the arena are taken;
+// `good`: every word so far was what it should be.
+struct Cursor {
+    at: usize,
+    fill: usize,
+    good: bool,
+}
+
+struct Slot {
+    from: usize,
+    to: usize,
+    number: u64,
+    good: bool,
+}
+
+// The part of s from a to e, or nothing where there is no such part.
+pub(crate) fn part(s: &[u8], a: usize, e: usize) -> &[u8] {
+    if a <= e {
+        if e <= s.len() {
+            return &s[a..e];
+        }
+    }
+    &s[..0]
+}
+
+// Where the line's first word ends.
+pub(crate) fn first_end(line: &[u8]) -> usize {
+    bytes::scan::find(line, 0, line.len(), b' ')
+}
+
+// Where the word behind the separator at `at` ends: before the next `stop`, or with the line.
+fn word_end(line: &[u8], at: usize, stop: u8) -> usize {
+    if at < line.len() {
+        bytes::scan::find(line, at + 1, line.len(), stop)
+    } else {
+        at
+    }
+}
+
+// That word: nothing where there is none.
+fn word(line: &[u8], at: usize, end: usize) -> &[u8] {
+    if at < end {
+        return part(line, at + 1, end);
+    }
+    &line[..0]
+}
+
+fn is_capital(letter: u8) -> bool {
+    letter < b'a'
+}
+
+fn stop_of(letter: u8) -> u8 {
+    if is_capital(letter) { b':' } else { b' ' }
+}
+
+// How many bytes a letter asks for.
+fn size_of(letter: u8) -> usize {
+    match letter {
+        b'e' | b'E' => 16,
+        b'k' | b'K' => KEY,
+        b'x' => 8,
+        b'y' => 4,
+        _ => ANY,
+    }
+}
+
+// Whether a word says as many bytes as it should: hex, or `-` for none.
+fn is_bytes(text: &[u8], size: usize) -> bool {
+    if check::same(text, b"-") {
+        return size == ANY;
+    }
+    if size == ANY {
+        return 0 < text.len() && lines::is_hex(text);
+    }
+    text.len() / 2 == size && lines::is_hex(text)
+}
+
+// The bytes that a word says, put into the arena from `fill` on: how far it is full then. `-` spells none.
+fn decoded(text: &[u8], arena: &mut [u8], fill: usize) -> usize {
+    if fill <= arena.len() {
+        let n = lines::from_hex(text, &mut arena[fill..]);
+        return fill + n;
+    }
+    fill
+}
+
+fn bytes_slot(text: &[u8], size: usize, arena: &mut [u8], fill: usize) -> Slot {
+    Slot {
+        from: fill,
+        to: decoded(text, arena, fill),
+        number: 0,
+        good: is_bytes(text, size),
+    }
+}
+
+fn number_slot(said: Number, fill: usize) -> Slot {
+    match said {
+        Number::Is(n) => Slot {
+            from: fill,
+            to: fill,
+            number: n,
+            good: true,
+        },
+        Number::No => Slot {
+            from: fill,
+            to: fill,
+            number: 0,
+            good: false,
+        },
+    }
+}
+
+// The routes by number: wide, narrow, rf.
+fn route_of(text: &[u8]) -> Number {
+    if check::same(text, b"wide") {
+        return Number::Is(0);
+    }
+    if check::same(text, b"narrow") {
+        return Number::Is(1);
+    }
+    if check::same(text, b"rf") {
+        return Number::Is(2);
+    }
+    Number::No
+}
+
+fn slot_of(letter: u8, text: &[u8], arena: &mut [u8], fill: usize) -> Slot {
+    match letter {
+        b'n' => number_slot(lines::decimal(text), fill),
+        b't' => number_slot(route_of(text), fill),
+        _ => bytes_slot(text, size_of(letter), arena, fill),
+    }
+}
+
+fn put_slot(slots: &mut [u64], i: usize, s: Slot) {
+    if i < slots.len() / 3 {
+        slots[3 * i] = s.from as u64;
+        slots[3 * i + 1] = s.to as u64;
+        slots[3 * i + 2] = s.number;
+    }
+}
+
+// The next word, into slot i.
+fn next(
+    letter: u8,
+    line: &[u8],
+    arena: &mut [u8],
+    slots: &mut [u64],
+    i: usize,
+    c: Cursor,
+) -> Cursor {
+    let at = c.at;
+    let end = word_end(line, at, stop_of(letter));
+    let s = slot_of(letter, word(line, at, end), arena, c.fill);
+    put_slot(slots, i, s);
+    Cursor {
+        at: end,
+        fill: s.to,
+        good: c.good && s.good,
+    }
+}
+
+// The words behind the first, which ends at `end`: whether they are what the letters ask for, and no more.
+pub(crate) fn read(
+    letters: &[u8],
+    line: &[u8],
+    end: usize,
+    arena: &mut [u8],
+    slots: &mut [u64],
+) -> bool {
+    let mut c = Cursor {
+        at: end,
+        fill: 0,
+        good: true,
+    };
+    let mut i = 0;
+    while i < letters.len() {
+        c = next(letters[i], line, arena, slots, i, c);
+        i += 1;
+    }
+    c.good && c.at == line.len()
+}
+
+fn slot_number(slots: &[u64], i: usize) -> u64 {
+    if i < slots.len() { slots[i] } else { 0 }
+}
+
+fn slot_index(slots: &[u64], i: usize) -> usize {
+    slot_number(slots, i) as usize
+}
+
+// The bytes of slot i.
+pub(crate) fn bytes<'a>(arena: &'a [u8], slots: &[u64], i: usize) -> &'a [u8] {
+    if i < SLOTS {
+        return part(
+            arena,
+            slot_index(slots, 3 * i),
+            slot_index(slots, 3 * i + 1),
+        );
+    }
+    &arena[..0]
+}
+
+// The number of slot i.
+pub(crate) fn number(slots: &[u64], i: usize) -> u64 {
+    if i < SLOTS {
+        return slot_number(slots, 3 * i + 2);
+    }
+    0
+}
+
+// The 16 bytes of s, zeros where there are fewer.
+pub(crate) fn block(s: &[u8]) -> [u8; 16] {
+    let mut b = [0u8; 16];
+    if s.len() <= 16 {
+        bytes::copy(s, &mut b);
+    }
+    b
+}
+
+// The element of slot i.
+pub(crate) fn element(arena: &[u8], slots: &[u64], i: usize) -> FieldElement {
+    FieldElement::from_bytes(block(bytes(arena, slots, i)))
+}
+
+fn wide(b: u8) -> u64 {
+    b as u64
+}
+
+// The word that slot i spells, the highest digits first.
+pub(crate) fn spelled(arena: &[u8], slots: &[u64], i: usize) -> u64 {
+    big_endian(bytes(arena, slots, i))
+}
+
+fn big_endian(s: &[u8]) -> u64 {
+    let mut x: u64 = 0;
+    let mut i = 0;
+    while i < s.len() {
+        x = (x << 8) | wide(s[i]);
+        i += 1;
+    }
+    x
+}
