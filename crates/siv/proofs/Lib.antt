@@ -4,3 +4,4 @@ pub mod Deriving
 pub mod Hashing
 pub mod Writing
 pub mod Sealing
+pub mod Returns

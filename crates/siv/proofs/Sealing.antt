@@ -8,13 +8,13 @@ use Rattle.gf2.specs.Bytes.{number}
 use Rattle.fips197.specs.Aes.{aes}
 use Rattle.fips197.proofs.Length.{aes-length}
 use Rattle.aead.specs.Bytes.{sameBytes}
-use Rattle.aead.specs.Mode.{sealedBy, bodyOf, tagOf, openedBy}
+use Rattle.aead.specs.Mode.{sealedBy, bodyOf, tagOf, openedBy, authenticBy}
 use Rattle.aead.proofs.Stream.{masked-length, masked-twice}
 use Rattle.aead.proofs.Modes as modes
 use Rattle.siv.specs.Keys.{hashKey, cipherKey}
 use Rattle.siv.specs.Tag.{hashed, tagBlock, tagUnder}
 use Rattle.siv.specs.Counter.{nextCounter, counterBlock, maskUnder}
-use Rattle.siv.specs.Siv.{mask, tag, sealed, opened}
+use Rattle.siv.specs.Siv.{mask, tag, sealed, opened, authentic}
 
 module _ (key nonce : List ℕ) where
   pub mask-keeps : (t text : List ℕ) → length (mask key nonce t text) ≡ length text
@@ -32,13 +32,18 @@ module _ (key nonce : List ℕ) where
   pub sealed-length : (ad text : List ℕ) → length (sealed key nonce ad text) ≡ length text + 16
   sealed-length ad text = modes.sealed-length (mask key nonce) (tag key nonce ad) mask-keeps mask-undoes (tag-sixteen ad) text
 
+  -- the text that a sealed part claims
+  pub opened-length : (s : List ℕ) → length (opened key nonce s) ≡ length (bodyOf s)
+  unfolding openedBy
+  opened-length s = mask-keeps (tagOf s) (bodyOf s)
+
   -- under keys that are held otherwise but are the same
   module _ (h : ℕ) (f : List ℕ → List ℕ) (eh : h ≡ number (hashKey key nonce)) (ef : f ≡ aes (cipherKey key nonce)) where
-    pub held-mask : (t text : List ℕ) → maskUnder f t text ≡ mask key nonce t text
+    held-mask : (t text : List ℕ) → maskUnder f t text ≡ mask key nonce t text
     unfolding mask
     held-mask t text = ap (λ (g : List ℕ → List ℕ). maskUnder g t text) ef
 
-    pub held-tag : (ad text : List ℕ) → tagUnder h f nonce ad text ≡ tag key nonce ad text
+    held-tag : (ad text : List ℕ) → tagUnder h f nonce ad text ≡ tag key nonce ad text
     unfolding tag
     held-tag ad text = λ i. tagUnder (eh i) (ef i) nonce ad text
 
@@ -46,10 +51,11 @@ module _ (key nonce : List ℕ) where
     unfolding mask tag
     held-sealed ad text = λ i. sealedBy (maskUnder (ef i)) (tagUnder (eh i) (ef i) nonce ad) text
 
-    pub held-authentic : (ad t body : List ℕ) → sameBytes (tagUnder h f nonce ad (maskUnder f t body)) t ≡ sameBytes (tag key nonce ad (mask key nonce t body)) t
-    held-authentic ad t body = ap (λ (x : List ℕ). sameBytes x t) (held-tag ad (maskUnder f t body) ∙ ap (tag key nonce ad) (held-mask t body))
+    pub held-opened : (s : List ℕ) → maskUnder f (tagOf s) (bodyOf s) ≡ opened key nonce s
+    unfolding openedBy
+    held-opened s = held-mask (tagOf s) (bodyOf s)
 
-  -- the text that a sealed part claims
-  pub opened-length : (s : List ℕ) → length (opened key nonce s) ≡ length (bodyOf s)
-  unfolding openedBy
-  opened-length s = mask-keeps (tagOf s) (bodyOf s)
+    pub held-authentic : (ad s : List ℕ) → sameBytes (tagUnder h f nonce ad (maskUnder f (tagOf s) (bodyOf s))) (tagOf s) ≡ authentic key nonce ad s
+    unfolding authenticBy openedBy
+    held-authentic ad s =
+        ap (λ (x : List ℕ). sameBytes x (tagOf s)) (held-tag ad (maskUnder f (tagOf s) (bodyOf s)) ∙ ap (tag key nonce ad) (held-mask (tagOf s) (bodyOf s)))

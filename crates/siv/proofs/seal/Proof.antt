@@ -1,18 +1,18 @@
 -- `siv::seal` meets its contract. Assumes nothing.
 use Prim.Native.Nat.{ℕ}
-use mathlib.Core.Path.{_≡_, sym, ap, ap₂, _∙_}
-use mathlib.Core.List.{List, _++_}
+use mathlib.Core.Path.{_≡_, sym, ap, _∙_}
+use mathlib.Core.List.{List}
 use native.Mathlib.Omega.{arith}
-use lib.ListN.{length, drop}
+use lib.ListN.{length}
 use Rattle.field.specs.Element.{value}
 use Rattle.aead.specs.Cipher.{encrypted}
 use Rattle.aead.specs.Mode.{sealedBy}
 use Rattle.aead.proofs.Done.{Sealable, sealable}
-use Rattle.aead.proofs.Written.{written-done, written-refused}
 use Rattle.siv.specs.Counter.{maskUnder}
 use Rattle.siv.specs.Tag.{tagUnder}
 use Rattle.siv.specs.Siv.{sealed, sealAnswer}
-use Rattle.siv.proofs.Sealing.{sealed-length, held-sealed}
+use Rattle.siv.proofs.Sealing.{held-sealed}
+use Rattle.siv.proofs.Returns.{seals-refused, seals-done}
 use borrow.Author.Needs.{needs}
 use Rattle.siv.proofs.seal.Statement.{statement}
 use Rattle.siv.proofs.seal.Tie as tie
@@ -25,11 +25,7 @@ returns : tie.Need-returns
 returns c =
     let f = c .before .seal-refusal in
     let a = given (c .before) .args in
-    record {
-      answer = f .ensures;
-      memory = sym (written-refused (sealAnswer (a .key .now) (a .nonce .now) (a .ad .now) (a .plaintext .now) (length (a .out .now)))
-          (sealed (a .key .now) (a .nonce .now) (a .ad .now) (a .plaintext .now)) (a .out .now) (λ e. c .if1 .taken (f .ensures ∙ e)));
-    }
+    seals-refused (a .key .now) (a .nonce .now) (a .ad .now) (a .plaintext .now) (a .out .now) (f .result) (f .ensures) (c .if1 .taken)
 
 -- nothing refuses: the answer is 0, and every length fits
 done : (c : tie.Else1) →
@@ -55,25 +51,25 @@ put-sealed-requires c κs =
     let f = fits (c .before .before .before) in
     (record { first = omega (arith, f .keyed .ad); second = omega (arith, f .text) }, f .room)
 
+-- what is written is the sealed part
+made : (c : tie.After-derive) →
+    let a = given (c .before .before .before) .args in
+    let k = c .derive .result in
+    sealedBy (maskUnder (encrypted (k .cipher))) (tagUnder (value (k .hash)) (encrypted (k .cipher)) (c .before .nonce-of .result) (a .ad .now)) (a .plaintext .now)
+    ≡ sealed (a .key .now) (a .nonce .now) (a .ad .now) (a .plaintext .now)
+made c =
+    let a = given (c .before .before .before) .args in
+    let k = c .derive in
+    let n = c .before .nonce-of in
+    held-sealed (a .key .now) (n .result) (value (k .result .hash)) (encrypted (k .result .cipher)) (k .ensures .hash) (k .ensures .cipher) (a .ad .now) (a .plaintext .now)
+    ∙ ap (λ (x : List ℕ). sealed (a .key .now) x (a .ad .now) (a .plaintext .now)) (n .ensures)
+
 returns-2 : tie.Need-returns-2
 returns-2 c =
-    let e = c .before .before .before .before .before .before in
+    let d = c .before .before .before .before in
+    let e = d .before .before in
     let a = given (e .before) .args in
-    let key = a .key .now in
-    let nonce = a .nonce .now in
-    let ad = a .ad .now in
-    let text = a .plaintext .now in
-    let out = a .out .now in
-    let n = c .before .before .before .before .before .nonce-of in
-    let k = c .before .before .before .before .derive in
-    let p = c .before .before .put-sealed in
-    let made : sealedBy (maskUnder (encrypted (k .result .cipher))) (tagUnder (value (k .result .hash)) (encrypted (k .result .cipher)) (n .result) ad) text ≡ sealed key nonce ad text =
-    held-sealed key (n .result) (value (k .result .hash)) (encrypted (k .result .cipher)) (k .ensures .hash) (k .ensures .cipher) ad text ∙ ap (λ (x : List ℕ). sealed key x ad text) (n .ensures) in
-    record {
-      answer = sym (done e);
-      memory = p .ensures ∙ ap₂ (λ (x : List ℕ) (m : ℕ). x ++ drop m out) made (sym (sealed-length key nonce ad text))
-          ∙ sym (written-done (sealAnswer key nonce ad text (length out)) (sealed key nonce ad text) out (done e));
-    }
+    seals-done (a .key .now) (a .nonce .now) (a .ad .now) (a .plaintext .now) (a .out .now) _ _ (done e) (made d) (c .before .before .put-sealed .ensures)
 
 pub seal-spec : {M : Type 1} → statement M
 seal-spec =

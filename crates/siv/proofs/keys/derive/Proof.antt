@@ -29,7 +29,7 @@ hash-is c =
     let a = c .before .before .before .before .before .before .args in
     let pair = c .before .before .before .pair in
     let whole : length (pair .result) ≤ 16 = omega arith in
-    c .before .block-of .ensures ∙ ap number (take-all 16 (pair .result) whole)
+    c .before .block-of .ensures .whole ∙ ap number (take-all 16 (pair .result) whole)
     ∙ ap number (pair .ensures ∙ ap (λ (f : List ℕ → List ℕ). pairBy f (a .nonce) 0 1) (given-is-aes (c .before .before .before .before)))
 
 low-is : (c : tie.After-pair2) →
