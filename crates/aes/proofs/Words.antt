@@ -1,15 +1,16 @@
 -- Laws of the state as four words, and of the rounds on it. Assumes nothing.
-use mathlib.Core.Path.{_≡_, refl, sym, ap, ap₂, _∙_}
+use mathlib.Core.Path.{_≡_, refl, sym, ap, ap₂, _∙_, subst}
 use mathlib.Core.List.{List, [], _∷_, _++_}
 use Prim.Native.Nat.{ℕ, zero, suc, _+_, _-_, _*_, _/_, _%_, _^_, _≤_, _<_}
 use native.Mathlib.Omega.{arith}
-use lib.Pow.{shr-shr}
+use native.Mathlib.Nat.{add-comm}
+use lib.Pow.{pow-add, shl-lt, shr-shr, high, low}
 use lib.Bits.{bitOr, or-shifted}
-use lib.ListN.{getD}
+use lib.ListN.{length, getD}
 use Rattle.gf2.specs.Carryless.{_⊕_}
 use Rattle.gf2.specs.Bytes.{number, bytesOf}
 use Rattle.gf2.proofs.Xor.{⊕-mod, ⊕-shr, ⊕-comm, ⊕-assoc}
-use Rattle.gf2.proofs.Bytes.{bytesOf-number}
+use Rattle.gf2.proofs.Bytes.{Bytes, bytes-++, number-lt, number-++, bytesOf-number}
 use Rattle.fips197.specs.Table.{tab}
 use Rattle.fips197.specs.Field.{gmul}
 use Rattle.fips197.specs.Cipher.{mix, mixColumn, subBytes, shiftRows, mixColumns, addRoundKey, rounds, cipher}
@@ -51,44 +52,37 @@ pub rows : (x : ℕ) → x % 256 ∷ x / 2 ^ 8 % 256 ∷ x / 2 ^ 16 % 256 ∷ x 
 unfolding bytesOf
 rows x = λ i. x % 256 ∷ row1 x i ∷ row2 x i ∷ row3 x i ∷ []
 
--- a word by its bytes
-module _ (a b c d : ℕ) (ha : a < 256) (hb : b < 256) (hc : c < 256) (hd : d < 256) where
-  bytes : (x : ℕ) → x ≡ number (a ∷ b ∷ c ∷ d ∷ []) → bytesOf 4 x ≡ a ∷ b ∷ c ∷ d ∷ []
-  bytes x e = ap (bytesOf 4) e ∙ bytesOf-number (a ∷ b ∷ c ∷ d ∷ []) (ha, (hb, (hc, (hd, tt))))
+-- four bytes summed in their places
+pub bytes-sum : (a b c d : ℕ) → a < 256 → b < 256 → c < 256 → d < 256 → bytesOf 4 (a + b * 256 + c * 65536 + d * 16777216) ≡ a ∷ b ∷ c ∷ d ∷ []
+unfolding number
+bytes-sum a b c d ha hb hc hd =
+    let e : a + b * 256 + c * 65536 + d * 16777216 ≡ number (a ∷ b ∷ c ∷ d ∷ []) = omega arith in
+    ap (bytesOf 4) e ∙ bytesOf-number (a ∷ b ∷ c ∷ d ∷ []) (ha, (hb, (hc, (hd, tt))))
 
-  pub bytes-sum : bytesOf 4 (a + b * 256 + c * 65536 + d * 16777216) ≡ a ∷ b ∷ c ∷ d ∷ []
-  unfolding number
-  bytes-sum = bytes (a + b * 256 + c * 65536 + d * 16777216) (omega arith)
-
--- a word turned left by k bits, with 32 - k = j
+-- a number of j + k bits turned left by k
 abbrev pub turned : (j k x : ℕ) → ℕ
-turned j k x = bitOr (x * 2 ^ k % 2 ^ 32) (x / 2 ^ j)
+turned j k x = bitOr (x * 2 ^ k % 2 ^ (j + k)) (x / 2 ^ j)
 
--- a word turned by one, two and three bytes
-module _ (a b c d : ℕ) (ha : a < 256) (hb : b < 256) (hc : c < 256) (hd : d < 256) where
-  turn8 : bytesOf 4 (turned 24 8 (number (a ∷ b ∷ c ∷ d ∷ []))) ≡ d ∷ a ∷ b ∷ c ∷ []
-  unfolding number
-  turn8 =
-      let n : ℕ = a + (b + (c + (d + 0 * 256) * 256) * 256) * 256 in
-      let low : n * 2 ^ 8 % 2 ^ 32 ≡ (a + b * 256 + c * 65536) * 2 ^ 8 = omega arith in
-      let high : n / 2 ^ 24 ≡ d = omega arith in
-      bytes d a b c hd ha hb hc _ (ap₂ bitOr low high ∙ or-shifted (a + b * 256 + c * 65536) 8 d hd ∙ omega arith)
+turn-parts : (j k l m : ℕ) → l < 2 ^ j → m < 2 ^ k → turned j k (m * 2 ^ j + l) ≡ l * 2 ^ k + m
+turn-parts j k l m hl hm =
+    let x : ℕ = m * 2 ^ j + l in
+    let p : ℕ = 2 ^ j in
+    let q : ℕ = 2 ^ k in
+    let cut : x * q ≡ m * (p * q) + l * q = omega arith in
+    let low-part : x * q % 2 ^ (j + k) ≡ l * q = ap (λ (n : ℕ). n % 2 ^ (j + k)) (cut ∙ ap (λ (n : ℕ). m * n + l * q) (sym (pow-add 2 j k))) ∙ low m (j + k) (shl-lt j k hl) in
+    ap₂ bitOr low-part (high m j hl) ∙ or-shifted l k m hm
 
-  turn16 : bytesOf 4 (turned 16 16 (number (a ∷ b ∷ c ∷ d ∷ []))) ≡ c ∷ d ∷ a ∷ b ∷ []
-  unfolding number
-  turn16 =
-      let n : ℕ = a + (b + (c + (d + 0 * 256) * 256) * 256) * 256 in
-      let low : n * 2 ^ 16 % 2 ^ 32 ≡ (a + b * 256) * 2 ^ 16 = omega arith in
-      let high : n / 2 ^ 16 ≡ c + d * 256 = omega arith in
-      bytes c d a b hc hd ha hb _ (ap₂ bitOr low high ∙ or-shifted (a + b * 256) 16 (c + d * 256) (omega arith) ∙ omega arith)
-
-  turn24 : bytesOf 4 (turned 8 24 (number (a ∷ b ∷ c ∷ d ∷ []))) ≡ b ∷ c ∷ d ∷ a ∷ []
-  unfolding number
-  turn24 =
-      let n : ℕ = a + (b + (c + (d + 0 * 256) * 256) * 256) * 256 in
-      let low : n * 2 ^ 24 % 2 ^ 32 ≡ a * 2 ^ 24 = omega arith in
-      let high : n / 2 ^ 8 ≡ b + c * 256 + d * 65536 = omega arith in
-      bytes b c d a hb hc hd ha _ (ap₂ bitOr low high ∙ or-shifted a 24 (b + c * 256 + d * 65536) (omega arith) ∙ omega arith)
+-- bytes turned by as many as m has
+turn-bytes : (j k : ℕ) (l m : List ℕ) → Bytes l → Bytes m → 256 ^ length l ≡ 2 ^ j → 256 ^ length m ≡ 2 ^ k
+    → bytesOf (length (m ++ l)) (turned j k (number (l ++ m))) ≡ m ++ l
+turn-bytes j k l m hl hm ej ek =
+    let whole : number (l ++ m) ≡ number m * 2 ^ j + number l =
+    number-++ l m ∙ add-comm (number l) (number m * 256 ^ length l) ∙ ap (λ (n : ℕ). number m * n + number l) ej in
+    let turned-whole : number l * 2 ^ k + number m ≡ number (m ++ l) =
+    sym (number-++ m l ∙ add-comm (number m) (number l * 256 ^ length m) ∙ ap (λ (n : ℕ). number l * n + number m) ek) in
+    ap (bytesOf (length (m ++ l)))
+    (ap (turned j k) whole ∙ turn-parts j k (number l) (number m) (subst (λ (n : ℕ). number l < n) ej (number-lt l hl)) (subst (λ (n : ℕ). number m < n) ek (number-lt m hm)) ∙ turned-whole)
+    ∙ bytesOf-number (m ++ l) (bytes-++ m l hm hl)
 
 -- the first of four goes to the end
 turn : (a b c d : ℕ) → a ⊕ b ⊕ c ⊕ d ≡ b ⊕ c ⊕ d ⊕ a
@@ -104,7 +98,11 @@ column-law p q r s hp hq hr hs =
     let z : ℕ = turned 16 16 (mixed0 r) in
     let t : ℕ = turned 8 24 (mixed0 s) in
     bytesOf-⊕ 4 (x ⊕ y ⊕ z) t
-    ∙ ap₂ xors (bytesOf-⊕ 4 (x ⊕ y) z ∙ ap₂ xors (bytesOf-⊕ 4 x y ∙ ap₂ xors (bytes (gmul 2 p) p p (gmul 3 p) (gmul-lt 2 p) hp hp (gmul-lt 3 p) x refl) (turn8 (gmul 2 q) q q (gmul 3 q) (gmul-lt 2 q) hq hq (gmul-lt 3 q))) (turn16 (gmul 2 r) r r (gmul 3 r) (gmul-lt 2 r) hr hr (gmul-lt 3 r))) (turn24 (gmul 2 s) s s (gmul 3 s) (gmul-lt 2 s) hs hs (gmul-lt 3 s))
+    ∙ ap₂ xors (bytesOf-⊕ 4 (x ⊕ y) z ∙ ap₂ xors (bytesOf-⊕ 4 x y ∙ ap₂ xors
+    (bytesOf-number (gmul 2 p ∷ p ∷ p ∷ gmul 3 p ∷ []) (gmul-lt 2 p, (hp, (hp, (gmul-lt 3 p, tt)))))
+    (turn-bytes 24 8 (gmul 2 q ∷ q ∷ q ∷ []) (gmul 3 q ∷ []) (gmul-lt 2 q, (hq, (hq, tt))) (gmul-lt 3 q, tt) refl refl))
+    (turn-bytes 16 16 (gmul 2 r ∷ r ∷ []) (r ∷ gmul 3 r ∷ []) (gmul-lt 2 r, (hr, tt)) (hr, (gmul-lt 3 r, tt)) refl refl))
+    (turn-bytes 8 24 (gmul 2 s ∷ []) (s ∷ s ∷ gmul 3 s ∷ []) (gmul-lt 2 s, tt) (hs, (hs, (gmul-lt 3 s, tt))) refl refl)
     ∙ (λ i. mix p q r s ∷ turn p (gmul 2 q) (gmul 3 r) s i ∷ (turn p q (gmul 2 r) (gmul 3 s) ∙ turn q (gmul 2 r) (gmul 3 s) p) i
     ∷ (turn (gmul 3 p) q r (gmul 2 s) ∙ turn q r (gmul 2 s) (gmul 3 p) ∙ turn r (gmul 2 s) (gmul 3 p) q) i ∷ [])
 

@@ -29,6 +29,7 @@ fn sub_word(a: u8, b: u8, c: u8, d: u8, table: &[u8; 256]) -> [u8; 4]
     ]
 }
 
+// Two words added, byte by byte.
 fn sum(a: [u8; 4], b: [u8; 4]) -> [u8; 4]
     ensures { λ r. ⌜ r ≡ fips.sum a b ⌝ }
 {

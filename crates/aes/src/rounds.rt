@@ -28,6 +28,7 @@ fn le32(a: u8, b: u8, c: u8, d: u8) -> u32
     (a as u32) + (b as u32) * 0x100 + (c as u32) * 0x1_0000 + (d as u32) * 0x100_0000
 }
 
+// The word of four bytes of s from i on.
 fn word_at(s: &[u8], i: usize) -> u32
     requires { ⌜ i + 4 ≤ length (now s) ⌝ }
     ensures { λ r. ⌜ bytesOf 4 r ≡ tab 4 (λ j. getD (now (s .entry)) (i + j) 0) ⌝ }
@@ -48,7 +49,7 @@ fn load(s: &[u8], i: usize) -> State
     }
 }
 
-// With the round key of round r.
+// The state plus the round key of round r.
 fn add_round_key(s: State, w: &[u8], r: usize) -> State
     requires { ⌜ 16 * r + 16 ≤ length (now w) ⌝ }
     ensures { λ o. ⌜ stateOf o ≡ fips.addRoundKey (stateOf s) (now (w .entry)) r ⌝ }
@@ -90,6 +91,7 @@ fn column(a: u32, b: u32, c: u32, d: u32, words: &[u32; 256]) -> u32
     p ^ ((q << 8) | (q >> 24)) ^ ((r << 16) | (r >> 16)) ^ ((s << 24) | (s >> 8))
 }
 
+// SubBytes, ShiftRows and MixColumns of the whole state.
 fn columns(s: State, words: &[u32; 256]) -> State
     requires { ⌜ now words ≡ wordTable ⌝ }
     ensures { λ r. ⌜ stateOf r ≡ fips.mixColumns (fips.shiftRows (fips.subBytes (stateOf s))) ⌝ }
@@ -115,6 +117,7 @@ fn last_column(a: u32, b: u32, c: u32, d: u32, words: &[u32; 256]) -> u32
     )
 }
 
+// SubBytes and ShiftRows of the whole state.
 fn last_columns(s: State, words: &[u32; 256]) -> State
     requires { ⌜ now words ≡ wordTable ⌝ }
     ensures { λ r. ⌜ stateOf r ≡ fips.shiftRows (fips.subBytes (stateOf s)) ⌝ }
@@ -127,6 +130,7 @@ fn last_columns(s: State, words: &[u32; 256]) -> State
     }
 }
 
+// The rows of a column.
 fn column_bytes(x: u32) -> [u8; 4]
     ensures { λ r. ⌜ r ≡ bytesOf 4 x ⌝ }
 {
@@ -138,6 +142,7 @@ fn column_bytes(x: u32) -> [u8; 4]
     ]
 }
 
+// The state as a block again.
 fn to_block(s: State) -> [u8; 16]
     ensures { λ r. ⌜ r ≡ stateOf s ⌝ }
 {
@@ -180,7 +185,7 @@ fn encrypt(block: [u8; 16], w: &[u8], nr: usize) -> [u8; 16]
     to_block(add_round_key(last_columns(s, &words), w, nr))
 }
 
-// The block encrypted under a schedule, whatever its bytes are.
+// The block encrypted under the schedule of a key of 16 bytes: for every schedule, one that no key has among them.
 pub fn encrypt128(schedule: Schedule128, block: [u8; 16]) -> [u8; 16]
     ensures { λ r. ⌜ r ≡ fips.cipher 10 (schedule .bytes) block ⌝ }
 {
@@ -188,6 +193,7 @@ pub fn encrypt128(schedule: Schedule128, block: [u8; 16]) -> [u8; 16]
     encrypt(block, &w, 10)
 }
 
+// The block encrypted under the schedule of a key of 32 bytes.
 pub fn encrypt256(schedule: Schedule256, block: [u8; 16]) -> [u8; 16]
     ensures { λ r. ⌜ r ≡ fips.cipher 14 (schedule .bytes) block ⌝ }
 {

@@ -523,12 +523,14 @@ const WORDS: [u32; 256] = [
     0x3a16_162c,
 ];
 
+// The S-box as a value, with its promise.
 pub fn sbox_table() -> [u8; 256]
     ensures { λ r. ⌜ r ≡ sboxTable ⌝ }
 {
     SBOX
 }
 
+// The table of words as a value, with its promise.
 pub fn word_table() -> [u32; 256]
     ensures { λ r. ⌜ r ≡ wordTable ⌝ }
 {

@@ -35,11 +35,3 @@ doubles = refl
 
 pub double-law : (x : ℕ) → x < 256 → (x * 2 % 256) ⊕ (x / 128 * 0x1b) ≡ gmul 2 x
 double-law x h = agree 256 (λ x. (x * 2 % 256) ⊕ (x / 128 * 0x1b)) (gmul 2) doubles x h
-
-triples : tab 256 (λ x. gmul 2 x ⊕ x) ≡ tab 256 (gmul 3)
-unfolding gmul remainder remainderN timesX clmul clmulN _⊕_
-triples = refl
-
--- {03} x = {02} x + x
-pub triple-law : (x : ℕ) → x < 256 → gmul 2 x ⊕ x ≡ gmul 3 x
-triple-law x h = agree 256 (λ x. gmul 2 x ⊕ x) (gmul 3) triples x h

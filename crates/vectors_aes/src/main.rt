@@ -64,6 +64,7 @@ fn last_fields(s: &[u8]) -> Pair {
     Pair { ok, plain, sealed }
 }
 
+// Whether a line with a key of 16 bytes agrees.
 fn agrees128(line: &[u8]) -> bool
     requires { ⌜ length (now line) ≡ 98 ⌝ }
 {
@@ -78,6 +79,7 @@ fn agrees128(line: &[u8]) -> bool
     fields.ok && check::same(&got, &sealed)
 }
 
+// Whether a line with a key of 32 bytes agrees.
 fn agrees256(line: &[u8]) -> bool
     requires { ⌜ length (now line) ≡ 130 ⌝ }
 {
@@ -92,6 +94,7 @@ fn agrees256(line: &[u8]) -> bool
     fields.ok && check::same(&got, &sealed)
 }
 
+// Whether a line agrees; one of any other length does not.
 fn agrees(line: &[u8]) -> bool {
     if line.len() == 98 {
         return agrees128(line);
@@ -138,6 +141,7 @@ fn line_end(s: &[u8], from: usize) -> usize
     end
 }
 
+// The tally of a whole list.
 fn count(s: &[u8]) -> Tally {
     let mut t = Tally { lines: 0, agree: 0 };
     let mut at = 0;
@@ -149,6 +153,7 @@ fn count(s: &[u8]) -> Tally {
     t
 }
 
+// Prints a list's name and its tally.
 fn show(name: &[u8], t: Tally) {
     io::write_all(STDOUT_FILENO, name);
     io::write_all(STDOUT_FILENO, b" ");
@@ -158,6 +163,7 @@ fn show(name: &[u8], t: Tally) {
     io::write_all(STDOUT_FILENO, b"\n");
 }
 
+// Reads a file into buf, as far as there is room, and answers how many bytes.
 fn read_file(name: &[u8], buf: &mut [u8]) -> usize
     ensures { λ r. ⌜ Counts r (now (buf .exit)) ⌝ }
 {
@@ -171,6 +177,7 @@ fn read_file(name: &[u8], buf: &mut [u8]) -> usize
     n
 }
 
+// Runs one list.
 fn run(name: &[u8]) {
     let mut buf = io::large_buffer();
     let n = read_file(name, &mut buf);
