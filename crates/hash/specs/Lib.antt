@@ -1,3 +1,4 @@
 -- What the contracts cite.
 pub mod Record
 pub mod Calls
+pub mod Feeds

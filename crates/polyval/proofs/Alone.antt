@@ -1,12 +1,13 @@
 -- No blocks on any route, and lone blocks one list after the other. Assumes nothing.
 use mathlib.Core.Path.{_≡_, refl, sym, ap, _∙_}
 use mathlib.Core.List.{List, [], _∷_, _++_}
-use Prim.Native.Nat.{ℕ, _/_}
+use Prim.Native.Nat.{ℕ, zero, suc, _/_}
 use native.Mathlib.Omega.{arith}
-use lib.ListN.{length}
+use lib.ListN.{length, take, drop}
+use Rattle.field.specs.declared.field_element.FieldElement.{FieldElement}
 use Rattle.field.specs.declared.rf.Counted.{Counted}
-use Rattle.field.specs.Element.{value}
-use Rattle.field.specs.Rf.{counted}
+use Rattle.field.specs.Element.{value, element}
+use Rattle.field.specs.Rf.{counted, Term, total, rOf, fOf, rfReduce, rfGroup}
 use Rattle.field.proofs.Element.{Sized, value-lt, value-element, element-value}
 use Rattle.polyval.specs.declared.key.Power.{Power}
 use Rattle.polyval.specs.declared.key.ExpandedKey.{ExpandedKey}
@@ -14,7 +15,7 @@ use Rattle.polyval.specs.declared.route.Route.{Route}
 use Rattle.polyval.specs.declared.route.Route.the-variants.{Wide, Narrow, Rf}
 use Rattle.polyval.specs.Machine.{run}
 use Rattle.polyval.specs.Key.{hOf}
-use Rattle.polyval.specs.Formulas.{groupOf, groupsOf, rfRun, inGroups, alone}
+use Rattle.polyval.specs.Formulas.{paired, joining, groupOf, groupsOf, rfRun, inGroups, alone}
 use Rattle.polyval.specs.Routes.{absorbOn}
 use Rattle.polyval.proofs.Run.{run-lt, run-++}
 
@@ -27,6 +28,21 @@ lone-++ : (ps : List Power) (held : Counted) (xs ys : List ℕ) → groupsOf (le
 unfolding groupsOf
 lone-++ ps held [] ys = refl
 lone-++ ps held (x ∷ xs) ys = lone-++ ps (groupOf ps held (x ∷ [])) xs ys
+
+-- what was spent before has no part in the element
+groups-element : (k n : ℕ) (ps : List Power) (a b : Counted) (xs : List ℕ) → a .element ≡ b .element → groupsOf k n ps a xs .element ≡ groupsOf k n ps b xs .element
+unfolding groupsOf rfGroup
+groups-element zero n ps a b xs e = e
+groups-element (suc k) n ps a b xs e =
+    let ts : FieldElement → List Term = λ v. paired ps (joining (value v) (take n xs)) in
+    groups-element k n ps (groupOf ps a (take n xs)) (groupOf ps b (take n xs)) (drop n xs) (ap (λ v. element (rfReduce (total rOf (ts v)) (total fOf (ts v)))) e)
+
+pub alone-element : (route : Route) (key : ExpandedKey) (a b : Counted) (xs : List ℕ) → a .element ≡ b .element
+    → absorbOn route alone key a xs .element ≡ absorbOn route alone key b xs .element
+unfolding rfRun
+alone-element Wide key a b xs e = ap (λ v. element (run (value (hOf key)) (value v) xs)) e
+alone-element Narrow key a b xs e = ap (λ v. element (run (value (hOf key)) (value v) xs)) e
+alone-element Rf key a b xs e = groups-element (length xs / 1) 1 (key .powers) a b xs e
 
 module _ (key : ExpandedKey) (held : Counted) (sized : Sized (held .element)) where
   -- no block leaves the element as it is

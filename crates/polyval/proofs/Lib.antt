@@ -11,4 +11,5 @@ pub mod Alone
 pub mod Sums
 pub mod Agree
 pub mod Cost
+pub mod Cases
 pub mod Unique

@@ -1,0 +1,61 @@
+-- From start to finish: what is fed under a key of 16 bytes hashes to POLYVAL of the blocks it spells, on every route. Assumes nothing.
+use mathlib.Core.Path.{_≡_, refl, sym, ap, _∙_, subst}
+use mathlib.Core.Bool.{cond, not}
+use mathlib.Core.List.{List, [], _∷_}
+use Prim.Native.Nat.{ℕ, zero-le, _^_, _<_}
+use lib.ListN.{length}
+use borrow.Author.Tests.{eq-eqb}
+use Rattle.answer.specs.Answers.{done, keyLength}
+use Rattle.gf2.specs.Bytes.{number, bytesOf}
+use Rattle.gf2.proofs.Bytes.{Bytes, number-lt}
+use Rattle.field.specs.Rf.{counted}
+use Rattle.field.proofs.Element.{element-sized}
+use Rattle.polyval.specs.declared.route.Route.{Route}
+use Rattle.polyval.specs.declared.route.Route.the-variants.{Wide, Narrow, Rf}
+use Rattle.polyval.specs.Machine.{run, polyval}
+use Rattle.polyval.specs.Blocks.{blocks}
+use Rattle.polyval.specs.Key.{keyOf, expansionCost}
+use Rattle.polyval.proofs.Check.{made-checks, value-hOf}
+use Rattle.polyval.proofs.Agree.{Checked}
+use Rattle.hash.specs.declared.Hash.{Hash}
+use Rattle.hash.specs.Record.{holding, fedOr}
+use Rattle.hash.specs.Calls.{startOf, finishOf}
+use Rattle.hash.specs.Feeds.{Feed, Accepted, fedAll, spelled}
+use Rattle.hash.proofs.OneHash.{bytes-zeros, Stored, Proper, routeOf, fedBytes, one-hash}
+
+-- the feeds hold bytes
+abbrev pub AllBytes : List Feed → Type 0
+AllBytes [] = Unit {0}
+AllBytes (f ∷ fs) = Bytes (fedBytes f) × AllBytes fs
+
+module _ (key : List ℕ) (long : length key ≡ 16) (bytes : Bytes key) where
+  h-lt : number key < 2 ^ 128
+  h-lt = subst (λ n. number key < 256 ^ n) long (number-lt key bytes)
+
+  -- start accepts the key, a zero one too
+  pub started : startOf key ≡ holding (keyOf (number key)) (counted 0 expansionCost) []
+  started = ap (λ t. fedOr (cond (not t) keyLength done) (holding (keyOf (number key)) (counted 0 expansionCost) [])) (eq-eqb (length key) 16 long)
+
+  abbrev begun : Hash
+  begun = holding (keyOf (number key)) (counted 0 expansionCost) [] .hash
+
+  good : (route : Route) → Checked route (keyOf (number key))
+  good Wide = tt
+  good Narrow = tt
+  good Rf = made-checks (number key) h-lt
+
+  proper : (fs : List Feed) → AllBytes fs → Proper (keyOf (number key)) fs
+  proper [] b = tt
+  proper (f ∷ fs) b = (good (routeOf f), b .0, proper fs (b .1))
+
+  stored : Stored begun
+  stored = record { sized = element-sized 0; long = refl; bytes = bytes-zeros 16 }
+
+  pub from-start : (fs : List Feed) (route : Route) → AllBytes fs → Accepted (startOf key .hash) fs
+      → (finishOf route (fedAll (startOf key .hash) fs) .answer ≡ done)
+      × (finishOf route (fedAll (startOf key .hash) fs) .tag ≡ bytesOf 16 (polyval (number key) (blocks (spelled fs))))
+  from-start fs route b ok =
+      let e = ap (λ r. r .hash) started in
+      subst (λ h. (finishOf route (fedAll h fs) .answer ≡ done) × (finishOf route (fedAll h fs) .tag ≡ bytesOf 16 (polyval (number key) (blocks (spelled fs))))) (sym e)
+      (let r = one-hash begun fs route stored zero-le (proper fs b) (good route) (subst (λ h. Accepted h fs) e ok) in
+      (r .0, r .1 ∙ ap (λ n. bytesOf 16 (run n 0 (blocks (spelled fs)))) (value-hOf (number key) h-lt)))
