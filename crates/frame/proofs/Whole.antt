@@ -33,6 +33,11 @@ picked n k t kind taken e = by (eqb n done) refl e
     by true q p = (eqb-true n 0 q, cc, cc)
     by false q p = absurd (let z : _≡_ {A = ℕ} 0 1 = cc in omega arith)
 
+-- where a frame stands there is no reason to stop
+pub no-reason : (s : List ℕ) (kind taken : ℕ) → frontOf s ≡ Whole kind taken → stopOf s ≡ 0
+unfolding frontOf
+no-reason s kind taken e = picked (stopOf s) (kindOf s) (takenOf s) kind taken e .0
+
 -- they are what the tests ask
 pub is-whole : (s : List ℕ) (kind taken : ℕ) → frontOf s ≡ Whole kind taken → IsWhole s kind taken
 unfolding frontOf checks Passed Told
