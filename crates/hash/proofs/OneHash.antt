@@ -12,7 +12,7 @@ use Rattle.answer.specs.Answers.{done, badRecord, notWholeBlocks}
 use Rattle.answer.specs.First.{_⇒_}
 use Rattle.answer.proofs.First.{Told, Passed, all-passed}
 use Rattle.gf2.specs.Bytes.{bytesOf}
-use Rattle.gf2.proofs.Bytes.{Bytes, bytes-take, bytes-drop}
+use Rattle.gf2.proofs.Bytes.{Bytes, bytes-++, bytes-take, bytes-drop}
 use Rattle.field.specs.declared.rf.Counted.{Counted}
 use Rattle.field.specs.Element.{value, element}
 use Rattle.field.proofs.Element.{Sized, value-lt, value-of, element-sized}
@@ -79,10 +79,6 @@ pub record Fedding (h next : Hash) (w : List ℕ) : Type 0 where
 pub bytes-zeros : (k : ℕ) → Bytes (replicate {A = ℕ} k 0)
 bytes-zeros zero = tt
 bytes-zeros (suc k) = (lit< tt, bytes-zeros k)
-
-bytes-++ : (s t : List ℕ) → Bytes s → Bytes t → Bytes (s ++ t)
-bytes-++ [] t bs bt = bt
-bytes-++ (x ∷ s) t bs bt = (bs .0, bytes-++ s t (bs .1) bt)
 
 -- a record that has absorbed xs and keeps `kept`
 module _ (h : Hash) (ok : Stored h) (c : Counted) (xs kept w : List ℕ) (made : c .element ≡ element (run (value (hOf (h .key))) (value (h .acc)) xs))

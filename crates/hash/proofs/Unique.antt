@@ -1,6 +1,8 @@
 -- For each public function, two answers that meet its contract, as the checker reads it, are equal. Assumes nothing.
 use mathlib.Core.Path.{sym, _∙_}
 use Rattle.gf2.proofs.Promise.{Unique}
+use Rattle.hash.proofs.Hash.zero.Kinds as zero-kinds
+use Rattle.hash.proofs.Hash.zero.Reads as zero-reads
 use Rattle.hash.proofs.Hash.start.Kinds as start-kinds
 use Rattle.hash.proofs.Hash.start.Reads as start-reads
 use Rattle.hash.proofs.Hash.feed_blocks.Kinds as feed-blocks-kinds
@@ -13,6 +15,9 @@ use Rattle.hash.proofs.Hash.finish.Kinds as finish-kinds
 use Rattle.hash.proofs.Hash.finish.Reads as finish-reads
 use Rattle.hash.proofs.Hash.reset.Kinds as reset-kinds
 use Rattle.hash.proofs.Hash.reset.Reads as reset-reads
+
+pub zero-unique : Unique 0 zero-kinds.ps zero-kinds.r zero-reads.Post
+zero-unique κs a x y e f p q = p ∙ sym q
 
 pub start-unique : Unique 1 start-kinds.ps start-kinds.r start-reads.Post
 start-unique κs a x y e f p q = p ∙ sym q

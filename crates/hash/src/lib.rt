@@ -51,19 +51,9 @@ impl Fed {
     fn refused(answer: u8) -> Fed
         ensures { λ r. ⌜ r ≡ record { answer = answer; hash = zeroHash; multiplies = 0 } ⌝ }
     {
-        let none = Power {
-            h: FieldElement::ZERO,
-            d: FieldElement::ZERO,
-        };
-        let powers = [none; POWERS];
         Fed {
             answer,
-            hash: Hash {
-                key: ExpandedKey { powers },
-                acc: FieldElement::ZERO,
-                pending: [0u8; 16],
-                count: 0,
-            },
+            hash: Hash::zero(),
             multiplies: 0,
         }
     }
@@ -102,6 +92,23 @@ impl Finished {
 }
 
 impl Hash {
+    // The all-zero record, which a refusal returns. Its key belongs to H = 0.
+    pub fn zero() -> Hash
+        ensures { λ r. ⌜ r ≡ zeroHash ⌝ }
+    {
+        let none = Power {
+            h: FieldElement::ZERO,
+            d: FieldElement::ZERO,
+        };
+        let powers = [none; POWERS];
+        Hash {
+            key: ExpandedKey { powers },
+            acc: FieldElement::ZERO,
+            pending: [0u8; 16],
+            count: 0,
+        }
+    }
+
     // A record under a key of 16 bytes, with nothing absorbed. The key is expanded for every route.
     pub fn start(key: &[u8]) -> Fed
         ensures { λ r. ⌜ r ≡ startOf (now (key .entry)) ⌝ }

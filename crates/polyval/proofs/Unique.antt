@@ -13,6 +13,10 @@ use Rattle.polyval.proofs.soft.absorb.Kinds as absorb-kinds
 use Rattle.polyval.proofs.soft.absorb.Reads as absorb-reads
 use Rattle.polyval.proofs.soft.absorb32.Kinds as absorb32-kinds
 use Rattle.polyval.proofs.soft.absorb32.Reads as absorb32-reads
+use Rattle.polyval.proofs.key.same.Kinds as same-kinds
+use Rattle.polyval.proofs.key.same.Reads as same-reads
+use Rattle.polyval.proofs.key.h_of.Kinds as h-of-kinds
+use Rattle.polyval.proofs.key.h_of.Reads as h-of-reads
 use Rattle.polyval.proofs.key.ExpandedKey.expand.Kinds as expand-kinds
 use Rattle.polyval.proofs.key.ExpandedKey.expand.Reads as expand-reads
 use Rattle.polyval.proofs.key.ExpandedKey.check.Kinds as check-kinds
@@ -39,6 +43,12 @@ absorb-unique κs a x y e f p q = p ∙ sym q
 
 pub absorb32-unique : Unique 1 absorb32-kinds.ps absorb32-kinds.r absorb32-reads.Post
 absorb32-unique κs a x y e f p q = p ∙ sym q
+
+pub same-unique : Unique 0 same-kinds.ps same-kinds.r same-reads.Post
+same-unique κs a x y e f p q = p ∙ sym q
+
+pub h-of-unique : Unique 0 h-of-kinds.ps h-of-kinds.r h-of-reads.Post
+h-of-unique κs a x y e f p q = p ∙ sym q
 
 pub expand-unique : Unique 0 expand-kinds.ps expand-kinds.r expand-reads.Post
 expand-unique κs a x y e f p q = p ∙ sym q

@@ -2,7 +2,7 @@
 use field::FieldElement;
 ghost use mathlib.Core.Path.{_≡_};
 ghost use Rattle.field.specs.Element.{value};
-ghost use Rattle.polyval.specs.Key.{expandedOf, checkOf, sameElement, samePower};
+ghost use Rattle.polyval.specs.Key.{expandedOf, hOf, checkOf, sameElement, samePower};
 
 // How many powers a key holds.
 pub const POWERS: usize = 4;
@@ -24,7 +24,8 @@ pub struct Expanded {
     pub multiplies: u64,
 }
 
-fn same(a: FieldElement, b: FieldElement) -> bool
+// Whether two elements are the same.
+pub fn same(a: FieldElement, b: FieldElement) -> bool
     ensures { λ r. ⌜ r ≡ sameElement a b ⌝ }
 {
     a.lo == b.lo && a.hi == b.hi
@@ -34,6 +35,15 @@ fn same_power(p: Power, q: Power) -> bool
     ensures { λ r. ⌜ r ≡ samePower p q ⌝ }
 {
     same(p.h, q.h) && same(p.d, q.d)
+}
+
+// The H of a stored key: its first power.
+pub fn h_of(key: ExpandedKey) -> FieldElement
+    ensures { λ r. ⌜ r ≡ hOf key ⌝ }
+{
+    let powers = key.powers;
+    let first = powers[0];
+    first.h
 }
 
 impl ExpandedKey {
@@ -70,8 +80,7 @@ impl ExpandedKey {
         ensures { λ r. ⌜ r ≡ checkOf self ⌝ }
     {
         let powers = self.powers;
-        let first = powers[0];
-        let belonging = ExpandedKey::expand(first.h).key.powers;
+        let belonging = ExpandedKey::expand(h_of(self)).key.powers;
         let mut i = 0;
         while i < POWERS {
             if !same_power(powers[i], belonging[i]) {

@@ -1,5 +1,6 @@
 // The routes by which blocks are absorbed. The caller chooses; the choice has no effect on the answer
 // where the key's check says yes.
+use crate::key;
 use crate::key::ExpandedKey;
 use crate::rf;
 use crate::soft;
@@ -23,10 +24,9 @@ pub enum Route {
 fn wide(key: ExpandedKey, held: Counted, s: &[u8]) -> Counted
     ensures { λ r. ⌜ r ≡ absorbOn Wide alone key held (blocks (now (s .entry))) ⌝ }
 {
-    let powers = key.powers;
-    let first = powers[0];
+    let h = key::h_of(key);
     Counted {
-        element: soft::absorb(first.h, held.element, s),
+        element: soft::absorb(h, held.element, s),
         multiplies: held.multiplies,
     }
 }
@@ -34,10 +34,9 @@ fn wide(key: ExpandedKey, held: Counted, s: &[u8]) -> Counted
 fn narrow(key: ExpandedKey, held: Counted, s: &[u8]) -> Counted
     ensures { λ r. ⌜ r ≡ absorbOn Narrow alone key held (blocks (now (s .entry))) ⌝ }
 {
-    let powers = key.powers;
-    let first = powers[0];
+    let h = key::h_of(key);
     Counted {
-        element: soft::absorb32(first.h, held.element, s),
+        element: soft::absorb32(h, held.element, s),
         multiplies: held.multiplies,
     }
 }

@@ -1,0 +1,58 @@
+// Joining the hashes of two parts of a message, without their bytes.
+pub mod halving;
+
+use field::FieldElement;
+use hash::Hash;
+use polyval::key;
+ghost use mathlib.Core.Path.{_≡_};
+ghost use Rattle.hash.specs.Record.{zeroHash};
+ghost use Rattle.join.specs.Join.{joinOf};
+
+// A call's answer, the record of both parts, and the dots that it spent.
+pub struct Joined {
+    pub answer: u8,
+    pub hash: Hash,
+    pub dots: u64,
+}
+
+// A refusal: the number, and an all-zero record.
+fn refused(answer: u8) -> Joined
+    ensures { λ r. ⌜ r ≡ record { answer = answer; hash = zeroHash; dots = 0 } ⌝ }
+{
+    Joined {
+        answer,
+        hash: Hash::zero(),
+        dots: 0,
+    }
+}
+
+// The record of the first part with the second behind it, which has n blocks: 14 where either has bytes
+// pending or their keys are unlike.
+pub fn join(first: Hash, second: Hash, n: u64) -> Joined
+    ensures { λ r. ⌜ r ≡ joinOf first second n ⌝ }
+{
+    if 0 < first.count {
+        return refused(answer::BAD_RECORD);
+    }
+    if 0 < second.count {
+        return refused(answer::BAD_RECORD);
+    }
+    let key = first.key;
+    let h = key::h_of(key);
+    if !key::same(h, key::h_of(second.key)) {
+        return refused(answer::BAD_RECORD);
+    }
+    let a = first.acc;
+    let b = second.acc;
+    let made = halving::times(a, h, n);
+    Joined {
+        answer: answer::DONE,
+        hash: Hash {
+            key,
+            acc: made.product.add(b),
+            pending: [0u8; 16],
+            count: 0,
+        },
+        dots: made.dots,
+    }
+}
