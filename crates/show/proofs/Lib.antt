@@ -1,5 +1,5 @@
 -- The laws of writing, of numbers and of escapes; what a line can hold; and that a promise fixes its answer.
-pub mod Written
+pub mod Room
 pub mod Decimals
 pub mod Fixed
 pub mod Escapes

@@ -5,7 +5,7 @@ use mathlib.Core.List.{List, _++_}
 use mathlib.Core.Bool.{cond}
 use lib.IntN.{ℤ}
 use lib.Dec.{leb}
-use lib.ListN.{length, take, drop}
+use lib.ListN.{length, drop}
 use Rattle.show.specs.Ascii.{ascii}
 use Rattle.show.specs.Numbers.{decimal, fixed}
 use Rattle.show.specs.Escapes.{escaped}
@@ -37,11 +37,6 @@ stopOf reason offset frames =
 
 unfoldable pub stopLineOf : (reason offset frames : ℕ) (note : List ℕ) → List ℕ
 stopLineOf reason offset frames note = stopOf reason offset frames ++ (escaped note ++ ascii "\n")
-
--- text stands at place n of out, which is else as it was, and the next place is behind it
-pub record Wrote (out : List ℕ) (n : ℕ) (text out′ : List ℕ) (n′ : ℕ) : Type 0 where
-  pub out-is : out′ ≡ take n out ++ (text ++ drop (n + length text) out)
-  pub next-is : n′ ≡ n + length text
 
 -- what a line may take that holds n bytes to escape
 abbrev pub roomFor : ℕ → ℕ

@@ -7,9 +7,10 @@ ghost use Prim.Native.Nat.{_+_, _*_, _%_, _^_, _≤_, _<_};
 ghost use lib.ListN.{length};
 ghost use lib.IntN.{natAbs};
 ghost use lib.Dec.{leb};
+ghost use Rattle.place.specs.Put.{Wrote};
 ghost use Rattle.show.specs.Numbers.{lastDigit, decimal, digits, sign, fixed};
 ghost use Rattle.show.specs.Escapes.{plain, hexDigit, hexEscape, shown, escaped};
-ghost use Rattle.show.specs.Lines.{headOf, lineOf, anglesOf, heightOf, positionLineOf, stopOf, stopLineOf, Wrote, roomFor, Line};
+ghost use Rattle.show.specs.Lines.{headOf, lineOf, anglesOf, heightOf, positionLineOf, stopOf, stopLineOf, roomFor, Line};
 
 // Room for all of a line but the bytes that are escaped, each of which may take four.
 pub const ROOM: usize = 256;
@@ -28,13 +29,7 @@ fn put_word(out: &mut [u8], at: usize, word: &[u8]) -> usize
     requires { ⌜ at + length (now word) ≤ length (now out) ⌝ }
     ensures { λ r. ⌜ Wrote (now (out .entry)) at (now (word .entry)) (now (out .exit)) r ⌝ }
 {
-    let mut next = at;
-    let mut i = 0;
-    while i < word.len() {
-        next = put(out, next, word[i]);
-        i += 1;
-    }
-    next
+    place::put(out, at, word)
 }
 
 // The last digit of n.

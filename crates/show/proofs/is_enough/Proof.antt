@@ -2,7 +2,7 @@ use mathlib.Core.Path.{sym}
 use native.Mathlib.Omega.{arith}
 use borrow.Author.Tests.{lt-leb}
 use Rattle.show.specs.Lines.{roomFor}
-use Rattle.show.proofs.Written.{by-quarters}
+use Rattle.show.proofs.Room.{by-quarters}
 use Rattle.show.proofs.is_enough.Statement.{statement}
 use Rattle.show.proofs.is_enough.Tie as tie
 use Rattle.show.proofs.is_enough.Reads as reads

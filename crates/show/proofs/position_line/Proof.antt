@@ -1,6 +1,6 @@
 use mathlib.Core.Path.{sym, _∙_}
 use borrow.Author.Tests.{leb-true}
-use Rattle.show.proofs.Written.{line-made, no-room}
+use Rattle.show.proofs.Room.{line-made, no-room}
 use borrow.Author.Needs.{needs}
 use Rattle.show.proofs.position_line.Statement.{statement}
 use Rattle.show.proofs.position_line.Tie as tie

@@ -1,6 +1,6 @@
 use borrow.Author.Needs.{needs}
 use native.Mathlib.Omega.{arith}
-use Rattle.show.proofs.Written.{wrote-one}
+use Rattle.place.proofs.Written.{wrote-one}
 use Rattle.show.proofs.put.Statement.{statement}
 use Rattle.show.proofs.put.Tie as tie
 use Rattle.show.proofs.put.Reads as reads

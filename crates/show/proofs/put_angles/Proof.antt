@@ -1,7 +1,7 @@
 use native.Mathlib.Omega.{arith}
 use mir.Facts.{toZ-ofZ}
 use Rattle.show.proofs.Lines.{angles-row}
-use Rattle.show.proofs.Written.{then, wrote-as}
+use Rattle.place.proofs.Written.{then, wrote-as}
 use borrow.Author.Needs.{needs}
 use Rattle.show.proofs.put_angles.Statement.{statement}
 use Rattle.show.proofs.put_angles.Tie as tie

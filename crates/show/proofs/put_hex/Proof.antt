@@ -1,5 +1,5 @@
 use mathlib.Core.List.{[], _∷_}
-use Rattle.show.proofs.Written.{wrote-as}
+use Rattle.place.proofs.Written.{wrote-as}
 use borrow.Author.Needs.{needs}
 use Rattle.show.proofs.put_hex.Statement.{statement}
 use Rattle.show.proofs.put_hex.Tie as tie

@@ -1,6 +1,6 @@
 use mathlib.Core.Path.{sym, _∙_}
 use native.Mathlib.Omega.{arith}
-use Rattle.show.proofs.Written.{wrote-as}
+use Rattle.place.proofs.Written.{wrote-as}
 use Rattle.show.proofs.Escapes.{shown-plain, shown-escaped}
 use borrow.Author.Needs.{needs}
 use Rattle.show.proofs.put_shown.Statement.{statement}

@@ -1,5 +1,5 @@
 use native.Mathlib.Omega.{arith}
-use Rattle.show.proofs.Written.{wrote-none, wrote-as}
+use Rattle.place.proofs.Written.{wrote-none, wrote-as}
 use Rattle.show.proofs.Fixed.{has-sign, no-sign}
 use borrow.Author.Needs.{needs}
 use Rattle.show.proofs.put_sign.Statement.{statement}

@@ -1,7 +1,7 @@
 use mathlib.Core.List.{append-assoc}
 use native.Mathlib.Omega.{arith}
 use Rattle.show.specs.Lines.{stopOf}
-use Rattle.show.proofs.Written.{then, wrote-as}
+use Rattle.place.proofs.Written.{then, wrote-as}
 use borrow.Author.Needs.{needs}
 use Rattle.show.proofs.put_stop.Statement.{statement}
 use Rattle.show.proofs.put_stop.Tie as tie

@@ -1,16 +1,14 @@
 -- Writing piece after piece: what stands at a place, and one piece behind another. Assumes nothing.
-use Prim.Native.Nat.{ℕ, _+_, _-_, _/_, _≤_, _<_}
+use Prim.Native.Nat.{ℕ, _+_, _≤_, _<_}
 use mathlib.Core.Path.{_≡_, refl, sym, ap, _∙_, subst}
 use mathlib.Core.List.{List, [], _∷_, _++_, append-assoc}
-use native.Mathlib.Nat.{add-zero, add-assoc, zero-add}
+use native.Mathlib.Nat.{add-zero, add-assoc}
 use native.Mathlib.Numerals.{add-one}
-use native.Mathlib.Omega.{arith}
 use mathlib.Core.Bool.{Bool, true, false, cond}
-use borrow.Author.Tests.{le-leb, lt-leb, leb-true, leb-false}
-use lib.Dec.{leb}
+use borrow.Author.Tests.{le-leb, lt-leb}
 use lib.ListN.{length, getD, set, take, drop, length-append, take-append-drop}
 use lib.Seq.{set-split, length-take-le, take-at, drop-at, drop-drop, take-suc}
-use Rattle.show.specs.Lines.{Wrote, roomFor, Line}
+use Rattle.place.specs.Put.{placed, Wrote, hasRoom, Puts}
 
 -- nothing is written
 pub wrote-none : (out : List ℕ) (n : ℕ) → Wrote out n [] out n
@@ -55,27 +53,26 @@ then {o} {a} {o₁} {b} {o₂} {n} {n₁} {n₂} h p q =
 pub wrote-as : {o a b o₁ : List ℕ} {n n₁ : ℕ} → a ≡ b → Wrote o n a o₁ n₁ → Wrote o n b o₁ n₁
 wrote-as {o} {a} {b} {o₁} {n} {n₁} e p = subst (λ (t : List ℕ). Wrote o n t o₁ n₁) e p
 
+-- the same place by another name
+pub wrote-so : {o a o₁ : List ℕ} {n n₁ n₂ : ℕ} → Wrote o n a o₁ n₁ → n₂ ≡ n₁ → Wrote o n a o₁ n₂
+wrote-so p e = record { out-is = p .out-is; next-is = e ∙ p .next-is }
+
 -- one element more of a list that is written element by element
 pub take-more : (s : List ℕ) (i : ℕ) → i < length s → take i s ++ (getD s i 0 ∷ []) ≡ take (i + 1) s
 take-more s i h = rw add-one (sym (take-suc s i 0 h))
 
--- the test of the room, by quarters
-pub by-quarters : (room n : ℕ) → 256 ≤ room → leb n ((room - 256) / 4) ≡ leb (roomFor n) room
-by-quarters room n h = two (leb n ((room - 256) / 4)) refl
-  where
-    two : (b : Bool) → leb n ((room - 256) / 4) ≡ b → b ≡ leb (roomFor n) room
-    two true e = sym (le-leb (roomFor n) room (let l = leb-true n ((room - 256) / 4) e in omega arith))
-    two false e = sym (lt-leb (roomFor n) room (let l = leb-false n ((room - 256) / 4) e in omega arith))
+-- with room for it, what is put is written; without, nothing is
+pub put-wrote : {out s out′ : List ℕ} {at next : ℕ} → at + length s ≤ length out → Puts out at s out′ next → Wrote out at s out′ next
+put-wrote {out} {s} {out′} {at} {next} h p =
+    let e : hasRoom out at s ≡ true = le-leb _ _ h in
+    record { out-is = p .out-is ∙ ap (λ (b : Bool). cond b (placed out at s) out) e; next-is = p .next-is ∙ ap (λ (b : Bool). cond b (at + length s) at) e }
 
--- a call that makes a line, with the room and without
-pub line-made : {n r : ℕ} {text out out′ : List ℕ} → leb (roomFor n) (length out) ≡ true → Wrote out 0 text out′ r → Line n text out out′ r
-line-made {n} {r} {text} {out} {out′} e w =
-    let z : 0 + length text ≡ length text = zero-add (length text) in
-    record {
-      out-is = w .out-is ∙ ap (λ (k : ℕ). text ++ drop k out) z ∙ sym (ap (λ (b : Bool). cond b (text ++ drop (length text) out) out) e);
-      length-is = w .next-is ∙ z ∙ sym (ap (λ (b : Bool). cond b (length text) 0) e);
-    }
+pub wrote-put : {out s out′ : List ℕ} {at next : ℕ} → at + length s ≤ length out → Wrote out at s out′ next → Puts out at s out′ next
+wrote-put {out} {s} {out′} {at} {next} h w =
+    let e : true ≡ hasRoom out at s = sym (le-leb _ _ h) in
+    record { out-is = w .out-is ∙ ap (λ (b : Bool). cond b (placed out at s) out) e; next-is = w .next-is ∙ ap (λ (b : Bool). cond b (at + length s) at) e }
 
-pub no-room : (n : ℕ) (text out : List ℕ) → leb (roomFor n) (length out) ≡ false → Line n text out out 0
-no-room n text out e =
-    record { out-is = sym (ap (λ (b : Bool). cond b (text ++ drop (length text) out) out) e); length-is = sym (ap (λ (b : Bool). cond b (length text) 0) e) }
+pub no-room : (out s : List ℕ) (at : ℕ) → length out < at + length s → Puts out at s out at
+no-room out s at h =
+    let e : false ≡ hasRoom out at s = sym (lt-leb _ _ h) in
+    record { out-is = ap (λ (b : Bool). cond b (placed out at s) out) e; next-is = ap (λ (b : Bool). cond b (at + length s) at) e }

@@ -1,0 +1,2 @@
+-- What the contract of the crate place cites.
+pub mod Put

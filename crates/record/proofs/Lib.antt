@@ -1,0 +1,3 @@
+-- The laws of the crate record.
+pub mod Powers
+pub mod Whole

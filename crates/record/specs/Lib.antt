@@ -1,0 +1,2 @@
+-- What the contracts of the crate record cite.
+pub mod Bytes
