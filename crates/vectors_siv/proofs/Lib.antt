@@ -1,0 +1,2 @@
+-- RFC 8452 section 8, computed.
+mod Worked
