@@ -11,3 +11,8 @@ use borrow.Fn.Kinds.{PK, RK, Dens, Out, resT, endedOf}
 abbrev pub Unique : (n : ℕ) (ps : List (PK n)) (r : RK n) → Out n ps r → Type 0
 Unique n ps r promise =
     (κs : Lfts n) (a : Dens κs ps) (x y : resT r κs .Denot) (e f : AtExit (endedOf n ps r) κs) → promise κs a x e → promise κs a y f → x ≡ y
+
+-- the same of what stands in a lent buffer afterwards, which `memory` reads off the parameters at exit
+abbrev pub UniqueMemory : (n : ℕ) (ps : List (PK n)) (r : RK n) → Out n ps r → ((κs : Lfts n) → AtExit (endedOf n ps r) κs → List ℕ) → Type 0
+UniqueMemory n ps r promise memory =
+    (κs : Lfts n) (a : Dens κs ps) (x y : resT r κs .Denot) (e f : AtExit (endedOf n ps r) κs) → promise κs a x e → promise κs a y f → memory κs e ≡ memory κs f
