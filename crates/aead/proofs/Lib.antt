@@ -9,3 +9,4 @@ pub mod Refusals
 pub mod Done
 pub mod Trips
 pub mod Written
+pub mod Unique

@@ -5,3 +5,4 @@ pub mod Hashing
 pub mod Writing
 pub mod Sealing
 pub mod Returns
+pub mod Unique
