@@ -1,0 +1,55 @@
+-- GHASH by way of POLYVAL (RFC 8452, appendix A; document 01, "Field"): the byte reverse of POLYVAL under mulx(reverse(H)) of the reversed blocks. Assumes nothing.
+use Prim.Native.Nat.{ℕ, _%_}
+use mathlib.Core.Bool.{cond, not}
+use mathlib.Core.List.{List, [], _∷_, reverse, map}
+use lib.Dec.{eqb}
+use lib.ListN.{length, replicate}
+use Rattle.answer.specs.Answers.{done, keyLength, notWholeBlocks}
+use Rattle.answer.specs.First.{first, _⇒_}
+use Rattle.gf2.specs.Polyval.{mulx}
+use Rattle.gf2.specs.Bytes.{number, bytesOf}
+use Rattle.field.specs.Element.{value, element}
+use Rattle.polyval.specs.Machine.{run, polyval}
+use Rattle.polyval.specs.Blocks.{blocks}
+use Rattle.ghash.specs.Gcm.{ghashOf, bits, bitBlocks}
+use Rattle.ghash.specs.declared.record.Ghash.{Ghash}
+use Rattle.ghash.specs.declared.record.Started.{Started}
+use Rattle.ghash.specs.declared.Hashed.{Hashed}
+
+-- sixteen bytes in the opposite order
+abbrev pub reversed : ℕ → ℕ
+reversed x = number (reverse (bytesOf 16 x))
+
+-- POLYVAL's key for GHASH's
+abbrev pub keyFor : List ℕ → ℕ
+keyFor key = mulx (reversed (number key))
+
+abbrev pub startAnswer : (key : List ℕ) → ℕ
+startAnswer key = first (not (eqb (length key) 16) ⇒ keyLength ∷ [])
+
+abbrev pub startOf : (key : List ℕ) → Started
+startOf key =
+    cond (eqb (startAnswer key) done) (record { answer = done; ghash = record { key = element (keyFor key); acc = element 0 } })
+    (record { answer = startAnswer key; ghash = record { key = element 0; acc = element 0 } })
+
+-- a padded feed: all blocks of s
+abbrev pub fedOf : Ghash → List ℕ → Ghash
+fedOf g s = record { key = g .key; acc = element (run (value (g .key)) (value (g .acc)) (map reversed (blocks s))) }
+
+abbrev pub tagOf : Ghash → List ℕ
+tagOf g = reverse (bytesOf 16 (value (g .acc)))
+
+-- the whole call: 1, then 3
+abbrev pub ghashAnswer : (key s : List ℕ) → ℕ
+ghashAnswer key s = first (not (eqb (length key) 16) ⇒ keyLength ∷ not (eqb (length s % 16) 0) ⇒ notWholeBlocks ∷ [])
+
+abbrev pub hashedOf : (key s : List ℕ) → Hashed
+hashedOf key s =
+    cond (eqb (ghashAnswer key s) done) (record { answer = done; tag = reverse (bytesOf 16 (polyval (keyFor key) (map reversed (blocks s)))) })
+    (record { answer = ghashAnswer key s; tag = replicate 16 0 })
+
+-- the same call in SP 800-38D's own terms: Equal's `call-is` says that they are one
+abbrev pub nistOf : (key s : List ℕ) → Hashed
+nistOf key s =
+    cond (eqb (ghashAnswer key s) done) (record { answer = done; tag = reverse (bytesOf 16 (ghashOf (bits key) (bitBlocks s))) })
+    (record { answer = ghashAnswer key s; tag = replicate 16 0 })
