@@ -12,7 +12,12 @@ abbrev pub Unique : (n : ℕ) (ps : List (PK n)) (r : RK n) → Out n ps r → T
 Unique n ps r promise =
     (κs : Lfts n) (a : Dens κs ps) (x y : resT r κs .Denot) (e f : AtExit (endedOf n ps r) κs) → promise κs a x e → promise κs a y f → x ≡ y
 
--- the same of what stands in a lent buffer afterwards, which `memory` reads off the parameters at exit
+-- the same of whatever can be seen of an answer, as where a part that is handed back lies
+abbrev pub Fixes : (n : ℕ) (ps : List (PK n)) (r : RK n) → Out n ps r → {T : Type 0} → ((κs : Lfts n) → resT r κs .Denot → AtExit (endedOf n ps r) κs → T) → Type 0
+Fixes n ps r promise seen =
+    (κs : Lfts n) (a : Dens κs ps) (x y : resT r κs .Denot) (e f : AtExit (endedOf n ps r) κs) → promise κs a x e → promise κs a y f
+    → seen κs x e ≡ seen κs y f
+
+-- and of what stands in a lent buffer afterwards, which `memory` reads off the parameters at exit
 abbrev pub UniqueMemory : (n : ℕ) (ps : List (PK n)) (r : RK n) → Out n ps r → ((κs : Lfts n) → AtExit (endedOf n ps r) κs → List ℕ) → Type 0
-UniqueMemory n ps r promise memory =
-    (κs : Lfts n) (a : Dens κs ps) (x y : resT r κs .Denot) (e f : AtExit (endedOf n ps r) κs) → promise κs a x e → promise κs a y f → memory κs e ≡ memory κs f
+UniqueMemory n ps r promise memory = Fixes n ps r promise (λ κs x e. memory κs e)
