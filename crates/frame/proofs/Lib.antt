@@ -7,3 +7,4 @@ pub mod Scans
 pub mod Longest
 pub mod NoCutFrame
 pub mod Cases
+pub mod Unique

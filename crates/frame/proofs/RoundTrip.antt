@@ -1,7 +1,7 @@
 -- A position and its sixteen bytes: each is got back from the other, so that no two positions share their bytes, and
 -- any sixteen bytes spell one position. Assumes nothing.
 use Prim.Native.Nat.{ℕ, _+_, _^_, _≤_, _<_}
-use mathlib.Core.Path.{_≡_, sym, ap, _∙_}
+use mathlib.Core.Path.{_≡_, refl, sym, ap, _∙_}
 use mathlib.Core.List.{List, _++_}
 use native.Mathlib.Omega.{arith}
 use lib.IntN.{ℤ}
@@ -22,6 +22,11 @@ pub record Fits (p : Position) : Type 0 where
   pub lon : SFits w32 (p .lon)
   pub alt : SFits w32 (p .alt)
   pub time : p .time < 2 ^ 32
+
+-- a position has sixteen bytes
+pub position-length : (p : Position) → length (positionBytes p) ≡ 16
+unfolding positionBytes bytesOf
+position-length p = refl
 
 -- the bytes of a position spell it
 pub position-bytes : (p : Position) → Fits p → positionOf (positionBytes p) ≡ p
