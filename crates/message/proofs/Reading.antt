@@ -50,6 +50,24 @@ module _ (kind taken : ℕ) (text out : List ℕ) (a : ℕ) (e : a ≡ contentAn
     ea ∙ copied-fits text out l ∙ ap (λ n. written n text out) (sym z ∙ e),
   )
 
+-- where no frame stands the reason answers, with any room, and nothing is written
+module _ (key s : List ℕ) (r : ℕ) (e : frontOf s ≡ Stop r) where
+  pub stop-answer : (room : ℕ) → readAnswer key s room ≡ r
+  unfolding readAnswer
+  stop-answer room = let why = reason s r e in then-refused (stopOf s) _ (λ z. omega arith) ∙ why .0
+
+  pub stop-read : (room : ℕ) → readOf key s room ≡ Refused r
+  unfolding readOf
+  stop-read room =
+      let there = reason s r e in
+      ap (λ a. orRefused a (messageOf (kindOf s) (openedIn key s) (takenOf s))) (stop-answer room) ∙ rw (ne-eqb r 0 (λ z. omega arith))
+
+  pub stop-out : (out : List ℕ) → readOut key s out ≡ out
+  unfolding readOut
+  stop-out out =
+      let there = reason s r e in
+      ap (λ a. written a (openedIn key s) out) (stop-answer (length out)) ∙ rw (ne-eqb r 0 (λ z. omega arith))
+
 module _ (key s out : List ℕ) where
   refused : (a : ℕ) → readAnswer key s (length out) ≡ a → (a ≡ 0 → ⊥) → Reads key s out (Refused a) out
   unfolding readOf readOut
@@ -60,11 +78,7 @@ module _ (key s out : List ℕ) where
 
   -- no frame
   pub stops : (r : ℕ) → frontOf s ≡ Stop r → Reads key s out (Refused r) out
-  unfolding readAnswer
-  stops r e =
-      let why = reason s r e in
-      let there = why .1 in
-      refused r (then-refused (stopOf s) _ (λ z. omega (arith, why .0)) ∙ why .0) (λ z. omega arith)
+  stops r e = record { answer = sym (stop-read key s r e (length out)); memory = sym (stop-out key s r e out) }
 
   -- a frame of this kind that takes so many bytes
   module _ (kind taken : ℕ) (w : frontOf s ≡ Whole kind taken) where

@@ -128,13 +128,13 @@ module _ (key s : List ℕ) (room : ℕ) (bytes : Bytes s) (e : readAnswer key s
   unfolding frontOf
   front-is = rw (eq-eqb (stopOf s) 0 (passed .0))
 
-  whole : IsWhole s (kindOf s) (takenOf s)
+  pub whole : IsWhole s (kindOf s) (takenOf s)
   whole = is-whole s (kindOf s) (takenOf s) front-is
 
   sealable-part : Openable (length key) (length (nonceIn s)) (length (adIn s)) (length (sealedIn s)) room × (authentic key (nonceIn s) (adIn s) (sealedIn s) ≡ true)
   sealable-part = openable (length key) (length (nonceIn s)) (length (adIn s)) (length (sealedIn s)) room (authentic key (nonceIn s) (adIn s) (sealedIn s)) (passed .1)
 
-  len-is : length text + 16 ≡ sealedLen s
+  pub len-is : length text + 16 ≡ sealedLen s
   len-is =
       let b = whole-bounds s (kindOf s) (takenOf s) whole in
       omega (arith, text-length key s [] (kindOf s) (takenOf s) front-is)

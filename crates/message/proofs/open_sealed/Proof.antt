@@ -12,7 +12,7 @@ use Rattle.message.proofs.open_sealed.Statement.{statement}
 use Rattle.message.proofs.open_sealed.Tie as tie
 
 slice-aggregate-open : tie.Need-slice-aggregate-open
-slice-aggregate-open c = sym (length-take-le 4 (c .before .before .before .before .before .args .s .now) (omega arith))
+slice-aggregate-open c = sym (length-take-le _ (c .before .before .before .before .before .args .s .now) (omega arith))
 
 returns : tie.Need-returns
 returns c =
