@@ -10,3 +10,4 @@ pub mod Done
 pub mod Trips
 pub mod Written
 pub mod Unique
+mod Cases

@@ -5,4 +5,6 @@ pub mod Hashing
 pub mod Writing
 pub mod Sealing
 pub mod Returns
+pub mod Theorems
 pub mod Unique
+mod Cases
