@@ -1,7 +1,4 @@
--- Laws that the functions' proofs share, and the theorems on sealing and opening.
-pub mod Counting
-pub mod Deriving
-pub mod Hashing
+-- What the buffers hold, what each way out owes, and the theorems on sealing and opening.
 pub mod Writing
 pub mod Sealing
 pub mod Returns

@@ -11,9 +11,9 @@ use Rattle.aead.specs.Bytes.{sameBytes}
 use Rattle.aead.specs.Mode.{sealedBy, bodyOf, tagOf, openedBy, authenticBy}
 use Rattle.aead.proofs.Stream.{masked-length, masked-twice}
 use Rattle.aead.proofs.Modes as modes
-use Rattle.siv.specs.Keys.{hashKey, cipherKey}
-use Rattle.siv.specs.Tag.{hashed, tagBlock, tagUnder}
-use Rattle.siv.specs.Counter.{nextCounter, counterBlock, maskUnder}
+use Rattle.rfc8452.specs.Keys.{hashKey, cipherKey}
+use Rattle.rfc8452.specs.Tag.{hashed, tagBlock, tagUnder}
+use Rattle.rfc8452.specs.Counter.{nextCounter, counterBlock, maskUnder}
 use Rattle.siv.specs.Siv.{mask, tag, sealed, opened, authentic}
 
 module _ (key nonce : List ℕ) where

@@ -9,9 +9,9 @@ use Rattle.gf2.specs.Bytes.{number}
 use Rattle.fips197.specs.Aes.{aes}
 use Rattle.aead.specs.Mode.{sealedBy, openedBy, authenticBy}
 use Rattle.aead.specs.Calls as calls
-use Rattle.siv.specs.Keys.{hashKey, cipherKey}
-use Rattle.siv.specs.Tag.{tagUnder}
-use Rattle.siv.specs.Counter.{maskUnder}
+use Rattle.rfc8452.specs.Keys.{hashKey, cipherKey}
+use Rattle.rfc8452.specs.Tag.{tagUnder}
+use Rattle.rfc8452.specs.Counter.{maskUnder}
 
 -- a text masked under a tag, and the tag of a text, with the keys that the nonce gives
 unfoldable pub mask : (key nonce tag text : List ℕ) → List ℕ

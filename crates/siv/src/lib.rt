@@ -2,7 +2,10 @@
 use aead::bytes;
 use aead::cipher::Cipher;
 use aead::lengths;
-use keys::Keys;
+use rfc8452::counter;
+use rfc8452::keys;
+use rfc8452::keys::Keys;
+use rfc8452::tag;
 ghost use mathlib.Core.Path.{_≡_};
 ghost use mathlib.Core.List.{_++_};
 ghost use Prim.Native.Nat.{_+_, _≤_};
@@ -11,13 +14,9 @@ ghost use Rattle.field.specs.Element.{value};
 ghost use Rattle.aead.specs.Bytes.{sameBytes};
 ghost use Rattle.aead.specs.Mode.{sealedBy, tagOf};
 ghost use Rattle.aead.specs.Cipher.{encrypted};
-ghost use Rattle.siv.specs.Counter.{maskUnder};
-ghost use Rattle.siv.specs.Tag.{tagUnder, Counts};
+ghost use Rattle.rfc8452.specs.Counter.{maskUnder};
+ghost use Rattle.rfc8452.specs.Tag.{tagUnder};
 ghost use Rattle.siv.specs.Siv.{Seals, Opens};
-
-mod counter;
-mod keys;
-mod tag;
 
 // The nonce as an array.
 fn nonce_of(nonce: &[u8]) -> [u8; 12]
@@ -52,7 +51,6 @@ fn put_masked(cipher: Cipher, tag: [u8; 16], text: &[u8], out: &mut [u8])
 
 // The sealed part goes to the front of out: the masked text, then the tag.
 fn put_sealed(keys: Keys, nonce: [u8; 12], ad: &[u8], text: &[u8], out: &mut [u8])
-    requires { ⌜ Counts (length (now ad)) (length (now text)) ⌝ }
     requires { ⌜ length (now text) + 16 ≤ length (now out) ⌝ }
     ensures { λ _. ⌜ now (out .exit) ≡ sealedBy (maskUnder (encrypted (keys .cipher))) (tagUnder (value (keys .hash)) (encrypted (keys .cipher)) nonce (now (ad .entry))) (now (text .entry)) ++ drop (length (now (text .entry)) + 16) (now (out .entry)) ⌝ }
 {
@@ -65,7 +63,6 @@ fn put_sealed(keys: Keys, nonce: [u8; 12], ad: &[u8], text: &[u8], out: &mut [u8
 
 // Whether the text that a body hides has the tag that came with it. It is not lent the output.
 fn is_authentic(keys: Keys, nonce: [u8; 12], ad: &[u8], body: &[u8], tag: [u8; 16]) -> bool
-    requires { ⌜ Counts (length (now ad)) (length (now body)) ⌝ }
     ensures { λ r. ⌜ r ≡ sameBytes (tagUnder (value (keys .hash)) (encrypted (keys .cipher)) nonce (now (ad .entry)) (maskUnder (encrypted (keys .cipher)) tag (now (body .entry)))) tag ⌝ }
 {
     bytes::same_tag(tag::body_tag(keys, nonce, ad, tag, body), tag)

@@ -1,6 +1,6 @@
 -- RFC 8452 section 8, "Worked Example": every value that it gives, computed from the definitions. Assumes nothing.
 use Prim.Native.Nat.{ℕ}
-use mathlib.Core.Path.{_≡_, refl, sym, ap, ap₂, _∙_}
+use mathlib.Core.Path.{_≡_, refl, ap, ap₂, _∙_}
 use mathlib.Core.List.{List, [], _∷_, _++_}
 use lib.ListN.{take}
 use Rattle.gf2.specs.Carryless.{_⊕_, clmulN, clmul}
@@ -17,9 +17,9 @@ use Rattle.polyval.specs.Blocks.{blocksN, blocks}
 use Rattle.aead.specs.Bytes.{xorBytes}
 use Rattle.aead.specs.Stream.{stream, masked}
 use Rattle.aead.specs.Mode.{sealedBy}
-use Rattle.siv.specs.Keys.{hashKey, cipherKey}
-use Rattle.siv.specs.Tag.{lengthBlock, hashed, tagBlock, tagUnder}
-use Rattle.siv.specs.Counter.{counterBlock, nextCounter}
+use Rattle.rfc8452.specs.Keys.{hashKey, cipherKey}
+use Rattle.rfc8452.specs.Tag.{lengthBlock, hashed, tagBlock, tagUnder}
+use Rattle.rfc8452.specs.Counter.{counterBlock, nextCounter}
 use Rattle.siv.specs.Siv.{mask, tag, sealed}
 
 -- "Consider the encryption of the plaintext "Hello world" with the additional data "example" under key ee8e1ed9ff2540ae8f2ba9f50bc2f27c"

@@ -1,7 +1,6 @@
 // The words of a line, which are fields in hex.
 ghost use Prim.Native.Nat.{_≤_};
 ghost use lib.ListN.{length};
-ghost use Rattle.io.specs.Counts.{Counts};
 
 // Where the first `mark` from a place on stands, or the end.
 pub(crate) fn end_of(s: &[u8], from: usize, mark: u8) -> usize

@@ -11,9 +11,10 @@ use Rattle.aead.specs.Bytes.{sameBytes}
 use Rattle.aead.specs.Cipher.{encrypted}
 use Rattle.aead.specs.Mode.{bodyOf}
 use Rattle.aead.proofs.Done.{Openable, openable}
-use Rattle.siv.specs.Counter.{maskUnder}
-use Rattle.siv.specs.Tag.{tagUnder}
+use Rattle.rfc8452.specs.Counter.{maskUnder}
+use Rattle.rfc8452.specs.Tag.{tagUnder}
 use Rattle.siv.specs.Siv.{opened, authentic}
+use Rattle.rfc8452.proofs.Deriving.{derived-hash, derived-cipher}
 use Rattle.siv.proofs.Sealing.{held-opened, held-authentic}
 use Rattle.siv.proofs.Returns.{judgedAnswer, opens-early, opens-differs, opens-done}
 use borrow.Author.Needs.{needs}
@@ -46,9 +47,6 @@ fits c =
 nonce-of-requires : tie.Need-nonce-of-requires
 nonce-of-requires c κs = fits c .keyed .nonce
 
-derive-requires : tie.Need-derive-requires
-derive-requires c κs = fits (c .before) .keyed .key
-
 tag-in-requires : tie.Need-tag-in-requires
 tag-in-requires c κs = fits (c .before .before) .tagged
 
@@ -59,13 +57,6 @@ slice-aggregate-is-authentic : tie.Need-slice-aggregate-is-authentic
 slice-aggregate-is-authentic c =
     let s = given (c .before .before .before .before .before) .args .sealed .now in
     sym (length-take-le (length s - 16) s (omega arith))
-
-is-authentic-requires : tie.Need-is-authentic-requires
-is-authentic-requires c κs =
-    let f = fits (c .before .before .before .before) in
-    let s = given (c .before .before .before .before .before) .args .sealed .now in
-    let l = length-take-le (length s - 16) s (omega arith) in
-    record { first = omega (arith, f .keyed .ad); second = omega (arith, l, f .sealed) }
 
 slice-aggregate-put-masked : tie.Need-slice-aggregate-put-masked
 slice-aggregate-put-masked c =
@@ -88,10 +79,11 @@ judged c =
     let n = c .before .before .before .before .nonce-of in
     let k = c .before .before .before .derive in
     let f = encrypted (k .result .cipher) in
+    let key = fits (c .before .before .before .before .before) .keyed .key in
     let h = value (k .result .hash) in
     c .is-authentic .ensures
     ∙ ap (λ (t : List ℕ). sameBytes (tagUnder h f (n .result) (a .ad .now) (maskUnder f t (bodyOf (a .sealed .now)))) t) (c .before .before .tag-in .ensures)
-    ∙ held-authentic (a .key .now) (n .result) h f (k .ensures .hash) (k .ensures .cipher) (a .ad .now) (a .sealed .now)
+    ∙ held-authentic (a .key .now) (n .result) h f (derived-hash (a .key .now) (n .result) (k .result) (k .ensures) key) (derived-cipher (a .key .now) (n .result) (k .result) (k .ensures) key) (a .ad .now) (a .sealed .now)
     ∙ ap (λ (x : List ℕ). authentic (a .key .now) x (a .ad .now) (a .sealed .now)) (n .ensures)
 
 -- what is written is the text that it hides
@@ -103,8 +95,9 @@ made c =
     let n = c .before .before .before .before .nonce-of in
     let k = c .before .before .before .derive in
     let f = encrypted (k .result .cipher) in
+    let key = fits (c .before .before .before .before .before) .keyed .key in
     ap (λ (t : List ℕ). maskUnder f t (bodyOf (a .sealed .now))) (c .before .before .tag-in .ensures)
-    ∙ held-opened (a .key .now) (n .result) (value (k .result .hash)) f (k .ensures .hash) (k .ensures .cipher) (a .sealed .now)
+    ∙ held-opened (a .key .now) (n .result) (value (k .result .hash)) f (derived-hash (a .key .now) (n .result) (k .result) (k .ensures) key) (derived-cipher (a .key .now) (n .result) (k .result) (k .ensures) key) (a .sealed .now)
     ∙ ap (λ (x : List ℕ). opened (a .key .now) x (a .sealed .now)) (n .ensures)
 
 returns-2 : tie.Need-returns-2
@@ -129,11 +122,11 @@ open-spec =
     (λ c κs. search needs)
     returns
     nonce-of-requires
-    derive-requires
+    (λ c κs. search needs)
     tag-in-requires
     sub-end
     slice-aggregate-is-authentic
-    is-authentic-requires
+    (λ c κs. search needs)
     slice-aggregate-put-masked
     put-masked-requires
     (λ c. search needs)

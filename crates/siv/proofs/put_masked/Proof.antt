@@ -5,7 +5,7 @@ use lib.ListN.{length, take}
 use lib.Seq.{length-take-le}
 use Rattle.aead.specs.Stream.{masked}
 use Rattle.aead.specs.Cipher.{encrypted}
-use Rattle.siv.specs.Counter.{nextCounter, maskUnder}
+use Rattle.rfc8452.specs.Counter.{nextCounter, maskUnder}
 use Rattle.siv.proofs.Writing.{changed-front}
 use borrow.Author.Needs.{needs}
 use Rattle.siv.proofs.put_masked.Statement.{statement}

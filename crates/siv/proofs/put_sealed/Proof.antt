@@ -7,7 +7,7 @@ use lib.ListN.{length, drop}
 use Rattle.aead.specs.Cipher.{encrypted}
 use Rattle.aead.specs.Mode.{sealedBy}
 use Rattle.aead.proofs.Stream.{masked-length}
-use Rattle.siv.specs.Counter.{counterBlock, nextCounter, maskUnder}
+use Rattle.rfc8452.specs.Counter.{counterBlock, nextCounter, maskUnder}
 use Rattle.siv.proofs.Writing.{put-behind}
 use borrow.Author.Needs.{needs}
 use Rattle.siv.proofs.put_sealed.Statement.{statement}

@@ -2,15 +2,15 @@
 use Prim.Native.Nat.{ℕ}
 use mathlib.Core.Path.{_≡_, sym, ap, _∙_}
 use mathlib.Core.List.{List}
-use native.Mathlib.Omega.{arith}
 use lib.ListN.{length}
 use Rattle.field.specs.Element.{value}
 use Rattle.aead.specs.Cipher.{encrypted}
 use Rattle.aead.specs.Mode.{sealedBy}
 use Rattle.aead.proofs.Done.{Sealable, sealable}
-use Rattle.siv.specs.Counter.{maskUnder}
-use Rattle.siv.specs.Tag.{tagUnder}
+use Rattle.rfc8452.specs.Counter.{maskUnder}
+use Rattle.rfc8452.specs.Tag.{tagUnder}
 use Rattle.siv.specs.Siv.{sealed, sealAnswer}
+use Rattle.rfc8452.proofs.Deriving.{derived-hash, derived-cipher}
 use Rattle.siv.proofs.Sealing.{held-sealed}
 use Rattle.siv.proofs.Returns.{seals-refused, seals-done}
 use borrow.Author.Needs.{needs}
@@ -43,13 +43,8 @@ fits c =
 nonce-of-requires : tie.Need-nonce-of-requires
 nonce-of-requires c κs = fits c .keyed .nonce
 
-derive-requires : tie.Need-derive-requires
-derive-requires c κs = fits (c .before) .keyed .key
-
 put-sealed-requires : tie.Need-put-sealed-requires
-put-sealed-requires c κs =
-    let f = fits (c .before .before .before) in
-    (record { first = omega (arith, f .keyed .ad); second = omega (arith, f .text) }, f .room)
+put-sealed-requires c κs = fits (c .before .before .before) .room
 
 -- what is written is the sealed part
 made : (c : tie.After-derive) →
@@ -61,7 +56,8 @@ made c =
     let a = given (c .before .before .before) .args in
     let k = c .derive in
     let n = c .before .nonce-of in
-    held-sealed (a .key .now) (n .result) (value (k .result .hash)) (encrypted (k .result .cipher)) (k .ensures .hash) (k .ensures .cipher) (a .ad .now) (a .plaintext .now)
+    let key = fits (c .before .before) .keyed .key in
+    held-sealed (a .key .now) (n .result) (value (k .result .hash)) (encrypted (k .result .cipher)) (derived-hash (a .key .now) (n .result) (k .result) (k .ensures) key) (derived-cipher (a .key .now) (n .result) (k .result) (k .ensures) key) (a .ad .now) (a .plaintext .now)
     ∙ ap (λ (x : List ℕ). sealed (a .key .now) x (a .ad .now) (a .plaintext .now)) (n .ensures)
 
 returns-2 : tie.Need-returns-2
@@ -78,7 +74,7 @@ seal-spec =
     (λ c κs. search needs)
     returns
     nonce-of-requires
-    derive-requires
+    (λ c κs. search needs)
     put-sealed-requires
     (λ c. search needs)
     returns-2)

@@ -1,5 +1,5 @@
 -- `vectors_siv::calls::is_marked` meets its contract. Assumes nothing.
-use Prim.Native.Nat.{_≤_, _-_}
+use Prim.Native.Nat.{_-_}
 use lib.ListN.{length}
 use borrow.Author.Needs.{needs}
 use Rattle.vectors_siv.proofs.calls.is_marked.Statement.{statement}
