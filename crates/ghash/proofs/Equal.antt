@@ -7,7 +7,7 @@ use native.Mathlib.Omega.{arith}
 use mathlib.Core.Bool.{Bool, true, false, cond, not}
 use borrow.Author.Tests.{eqb-true}
 use Rattle.answer.specs.Answers.{done, keyLength, notWholeBlocks}
-use lib.Dec.{eqb, lit<}
+use lib.Dec.{eqb}
 use lib.ListN.{length, take, drop, replicate, length-append, length-replicate, length-take}
 use lib.Pow.{pow-pos}
 use Rattle.gf2.specs.Carryless.{_⊕_}
@@ -15,7 +15,7 @@ use Rattle.gf2.specs.Polyval.{mulx, dot}
 use Rattle.gf2.specs.Bytes.{number, bytesOf}
 use Rattle.gf2.proofs.Xor.{⊕-lt}
 use Rattle.gf2.proofs.Dot.{dot-lt}
-use Rattle.gf2.proofs.Bytes.{Bytes, bytes-++, bytes-take, bytes-drop, bytesOf-number}
+use Rattle.gf2.proofs.Bytes.{Bytes, bytes-zeros, bytes-++, bytes-take, bytes-drop, bytesOf-number}
 use Rattle.gf2.proofs.Roots.{Elements}
 use Rattle.polyval.specs.Machine.{step, run, polyval}
 use Rattle.polyval.specs.Blocks.{blocksN, blocks}
@@ -36,9 +36,6 @@ ghash-run h y (x ∷ xs) lh ly e =
 
 -- bytes with zeros up to sixteen
 module _ (s : List ℕ) (b : Bytes s) (few : length s ≤ 16) where
-  zeros : List ℕ
-  zeros = replicate (16 - length s) 0
-
   filled-length : length (s ++ replicate (16 - length s) 0) ≡ 16
   filled-length = length-append s (replicate (16 - length s) 0) ∙ ap (λ n. length s + n) (length-replicate {A = ℕ} (16 - length s) 0) ∙ omega arith
 
@@ -46,10 +43,6 @@ module _ (s : List ℕ) (b : Bytes s) (few : length s ≤ 16) where
   filled-bytes =
       ap₂ bytesOf (sym filled-length) (sym (number-zeros s (16 - length s)))
       ∙ bytesOf-number (s ++ replicate (16 - length s) 0) (bytes-++ s (replicate (16 - length s) 0) b (bytes-zeros (16 - length s)))
-    where
-      bytes-zeros : (k : ℕ) → Bytes (replicate {A = ℕ} k 0)
-      bytes-zeros zero = tt
-      bytes-zeros (suc k) = (lit< tt, bytes-zeros k)
 
 -- SP 800-38D's blocks are the reversed ones
 blocks-reversed : (n : ℕ) (s : List ℕ) → Bytes s → bitBlocksN n s ≡ map reversed (blocksN n s)

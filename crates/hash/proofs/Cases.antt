@@ -9,7 +9,7 @@ use borrow.Author.Tests.{eq-eqb}
 use Rattle.answer.specs.Answers.{done, notWholeBlocks}
 use Rattle.gf2.specs.Bytes.{number, bytesOf}
 use Rattle.gf2.specs.Polyval.{unit}
-use Rattle.gf2.proofs.Bytes.{Bytes, number-lt, bytesOf-number, number-bytesOf, bytesOf-length, bytesOf-bytes}
+use Rattle.gf2.proofs.Bytes.{bytes-zeros, Bytes, number-lt, bytesOf-number, number-bytesOf, bytesOf-length, bytesOf-bytes}
 use Rattle.gf2.proofs.Dot.{unit-lt}
 use Rattle.field.specs.Element.{element}
 use Rattle.field.specs.Rf.{counted}
@@ -25,7 +25,6 @@ use Rattle.hash.specs.declared.Hash.{Hash}
 use Rattle.hash.specs.Record.{zeroHash, holding, fedOr}
 use Rattle.hash.specs.Calls.{absorbed, startOf, wholeOf, paddedOf, pieceOf, finishOf, resetOf}
 use Rattle.hash.specs.Feeds.{Feed, Whole, Accepted, fedAll, spelled}
-use Rattle.hash.proofs.OneHash.{bytes-zeros}
 use Rattle.hash.proofs.Start.{AllBytes, started, from-start}
 
 -- "Refusing an all-zero hash key" is ruled out, and it hashes everything to zero

@@ -3,7 +3,7 @@
 use mathlib.Core.Path.{_≡_, refl, sym, ap, ap₂, _∙_, subst}
 use mathlib.Core.Bool.{Bool, true, false, cond, not}
 use mathlib.Core.List.{List, [], _∷_, _++_, append-assoc, append-nil}
-use Prim.Native.Nat.{ℕ, zero, suc, _+_, _-_, _*_, _/_, _%_, _≤_}
+use Prim.Native.Nat.{ℕ, _+_, _-_, _*_, _/_, _%_, _≤_}
 use native.Mathlib.Omega.{arith}
 use lib.Dec.{eqb, ltb, lit<, lit≤}
 use lib.ListN.{length, take, replicate, length-append, length-replicate}
@@ -12,7 +12,7 @@ use Rattle.answer.specs.Answers.{done, badRecord, notWholeBlocks}
 use Rattle.answer.specs.First.{_⇒_}
 use Rattle.answer.proofs.First.{Told, Passed, all-passed}
 use Rattle.gf2.specs.Bytes.{bytesOf}
-use Rattle.gf2.proofs.Bytes.{Bytes, bytes-++, bytes-take, bytes-drop}
+use Rattle.gf2.proofs.Bytes.{Bytes, bytes-zeros, bytes-++, bytes-take, bytes-drop}
 use Rattle.field.specs.declared.rf.Counted.{Counted}
 use Rattle.field.specs.Element.{value, element}
 use Rattle.field.proofs.Element.{Sized, value-lt, value-of, element-sized}
@@ -75,10 +75,6 @@ pub record Fedding (h next : Hash) (w : List ℕ) : Type 0 where
   pub stored : Stored next
   pub few : next .count ≤ 15
   pub same : (rest : List ℕ) → hashed h (w ++ rest) ≡ hashed next rest
-
-pub bytes-zeros : (k : ℕ) → Bytes (replicate {A = ℕ} k 0)
-bytes-zeros zero = tt
-bytes-zeros (suc k) = (lit< tt, bytes-zeros k)
 
 -- a record that has absorbed xs and keeps `kept`
 module _ (h : Hash) (ok : Stored h) (c : Counted) (xs kept w : List ℕ) (made : c .element ≡ element (run (value (hOf (h .key))) (value (h .acc)) xs))

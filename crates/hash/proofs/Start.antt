@@ -7,7 +7,7 @@ use lib.ListN.{length}
 use borrow.Author.Tests.{eq-eqb}
 use Rattle.answer.specs.Answers.{done, keyLength}
 use Rattle.gf2.specs.Bytes.{number, bytesOf}
-use Rattle.gf2.proofs.Bytes.{Bytes, number-lt}
+use Rattle.gf2.proofs.Bytes.{bytes-zeros, Bytes, number-lt}
 use Rattle.field.specs.Rf.{counted}
 use Rattle.field.proofs.Element.{element-sized}
 use Rattle.polyval.specs.declared.route.Route.{Route}
@@ -21,7 +21,7 @@ use Rattle.hash.specs.declared.Hash.{Hash}
 use Rattle.hash.specs.Record.{holding, fedOr}
 use Rattle.hash.specs.Calls.{startOf, finishOf}
 use Rattle.hash.specs.Feeds.{Feed, Accepted, fedAll, spelled}
-use Rattle.hash.proofs.OneHash.{bytes-zeros, Stored, Proper, routeOf, fedBytes, one-hash}
+use Rattle.hash.proofs.OneHash.{Stored, Proper, routeOf, fedBytes, one-hash}
 
 -- the feeds hold bytes
 abbrev pub AllBytes : List Feed → Type 0

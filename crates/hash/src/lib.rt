@@ -47,17 +47,6 @@ fn kept(store: [u8; 16], count: usize, s: &[u8]) -> [u8; 16]
 }
 
 impl Fed {
-    // A refusal: the number, and an all-zero record.
-    fn refused(answer: u8) -> Fed
-        ensures { λ r. ⌜ r ≡ record { answer = answer; hash = zeroHash; multiplies = 0 } ⌝ }
-    {
-        Fed {
-            answer,
-            hash: Hash::zero(),
-            multiplies: 0,
-        }
-    }
-
     // Done: a record that keeps the first `count` bytes of a store with s behind them.
     fn holding(key: ExpandedKey, made: Counted, store: [u8; 16], count: usize, s: &[u8]) -> Fed
         requires { ⌜ count + length (now s) ≤ 16 ⌝ }
@@ -109,12 +98,24 @@ impl Hash {
         }
     }
 
+    // A refusal: the number, and an all-zero record in the place of this one.
+    fn refused(self, answer: u8) -> Fed
+        ensures { λ r. ⌜ r ≡ record { answer = answer; hash = zeroHash; multiplies = 0 } ⌝ }
+    {
+        let none = Hash::zero();
+        Fed {
+            answer,
+            hash: none,
+            multiplies: 0,
+        }
+    }
+
     // A record under a key of 16 bytes, with nothing absorbed. The key is expanded for every route.
     pub fn start(key: &[u8]) -> Fed
         ensures { λ r. ⌜ r ≡ startOf (now (key .entry)) ⌝ }
     {
         if key.len() != 16 {
-            return Fed::refused(answer::KEY_LENGTH);
+            return Hash::zero().refused(answer::KEY_LENGTH);
         }
         let expanded = ExpandedKey::expand(block::block_of(key));
         let made = Counted {
@@ -152,10 +153,10 @@ impl Hash {
         ensures { λ r. ⌜ r ≡ wholeOf route self (now (s .entry)) ⌝ }
     {
         if 0 < self.count {
-            return Fed::refused(answer::BAD_RECORD);
+            return self.refused(answer::BAD_RECORD);
         }
         if s.len() % 16 != 0 {
-            return Fed::refused(answer::NOT_WHOLE_BLOCKS);
+            return self.refused(answer::NOT_WHOLE_BLOCKS);
         }
         self.absorb(route, s)
     }
@@ -166,7 +167,7 @@ impl Hash {
         ensures { λ r. ⌜ r ≡ paddedOf route self (now (s .entry)) ⌝ }
     {
         if 0 < self.count {
-            return Fed::refused(answer::BAD_RECORD);
+            return self.refused(answer::BAD_RECORD);
         }
         self.absorb(route, s)
     }
@@ -196,7 +197,7 @@ impl Hash {
     {
         let count = self.count;
         if 15 < count {
-            return Fed::refused(answer::BAD_RECORD);
+            return self.refused(answer::BAD_RECORD);
         }
         if 16 - count <= s.len() {
             return self.complete(route, s);
@@ -232,7 +233,7 @@ impl Hash {
         ensures { λ r. ⌜ r ≡ resetOf self ⌝ }
     {
         if 15 < self.count {
-            return Fed::refused(answer::BAD_RECORD);
+            return self.refused(answer::BAD_RECORD);
         }
         let made = Counted {
             element: FieldElement::ZERO,

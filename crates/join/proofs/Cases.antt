@@ -6,20 +6,20 @@ use Rattle.field.specs.Element.{element}
 use Rattle.polyval.specs.Key.{powersFrom, keyOf}
 use Rattle.hash.specs.declared.Hash.{Hash}
 use Rattle.hash.specs.Record.{zeroHash}
-use Rattle.join.specs.Halving.{onesN, widthN, ones, width, dotsOf}
+use Rattle.join.specs.Halving.{overDigits, ones, width, dotsOf}
 use Rattle.join.specs.Join.{joinOf}
 
 -- no block more: nothing is multiplied; the most that a count of 64 bits can take
 pub no-dots : dotsOf 0 ≡ 0
-unfolding dotsOf ones onesN width widthN
+unfolding dotsOf ones width overDigits
 no-dots = refl
 
 pub two-dots : dotsOf 2 ≡ 2
-unfolding dotsOf ones onesN width widthN
+unfolding dotsOf ones width overDigits
 two-dots = refl
 
 pub most-dots : dotsOf (2 ^ 64 - 1) ≡ 127
-unfolding dotsOf ones onesN width widthN
+unfolding dotsOf ones width overDigits
 most-dots = refl
 
 abbrev holding : (h count : ℕ) → Hash

@@ -13,23 +13,18 @@ unfoldable pub times : (h n a : ℕ) → ℕ
 times h zero a = a
 times h (suc n) a = times h n (dot a h)
 
--- n's digits that are 1, and all its digits. k counts those to go; it stops as soon as n has run out.
-unfoldable pub onesN : (k n : ℕ) → ℕ
-onesN zero n = 0
-onesN (suc k) zero = 0
-onesN (suc k) (suc n) = suc n % 2 + onesN k (suc n / 2)
+-- the sum of f over the binary digits of n. k counts those to go; it stops as soon as n has run out.
+unfoldable pub overDigits : (f : ℕ → ℕ) (k n : ℕ) → ℕ
+overDigits f zero n = 0
+overDigits f (suc k) zero = 0
+overDigits f (suc k) (suc n) = f (suc n % 2) + overDigits f k (suc n / 2)
 
-unfoldable pub widthN : (k n : ℕ) → ℕ
-widthN zero n = 0
-widthN (suc k) zero = 0
-widthN (suc k) (suc n) = suc (widthN k (suc n / 2))
-
--- n has at most n digits
+-- n has at most n digits: how many of them are 1, and how many there are
 unfoldable pub ones : ℕ → ℕ
-ones n = onesN n n
+ones n = overDigits (λ d. d) n n
 
 unfoldable pub width : ℕ → ℕ
-width n = widthN n n
+width n = overDigits (λ d. 1) n n
 
 -- a dot for each digit that is 1, and a squaring for each digit but the last
 unfoldable pub dotsOf : ℕ → ℕ

@@ -16,13 +16,16 @@ use borrow.Author.Needs.{needs}
 use Rattle.hash.proofs.Hash.start.Statement.{statement}
 use Rattle.hash.proofs.Hash.start.Tie as tie
 
+zero-requires : tie.Need-zero-requires
+zero-requires c κs = search needs
+
 refused-requires : tie.Need-refused-requires
 refused-requires c κs = search needs
 
 returns : tie.Need-returns
 returns c =
-    let k = c .before .before .before .args .key .now in
-    c .refused .ensures ∙ sym (ap (λ t. fedOr (cond (not t) keyLength done) (holding (keyOf (number k)) (counted 0 expansionCost) [])) (ne-eqb (length k) 16 (c .before .if1 .taken)))
+    let k = c .before .before .before .before .args .key .now in
+    c .refused .ensures ∙ sym (ap (λ t. fedOr (cond (not t) keyLength done) (holding (keyOf (number k)) (counted 0 expansionCost) [])) (ne-eqb (length k) 16 (c .before .before .if1 .taken)))
 
 block-of-requires : tie.Need-block-of-requires
 block-of-requires c κs = search needs
@@ -51,6 +54,7 @@ pub start-spec : {M : Type 1} → statement M
 start-spec =
     tie.close
     (tie.spec
+    zero-requires
     refused-requires
     returns
     block-of-requires

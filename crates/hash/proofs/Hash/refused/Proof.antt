@@ -1,7 +1,7 @@
--- `hash::Fed::refused` meets its contract. Assumes nothing.
+-- `hash::Hash::refused` meets its contract. Assumes nothing.
 use borrow.Author.Needs.{needs}
-use Rattle.hash.proofs.Fed.refused.Statement.{statement}
-use Rattle.hash.proofs.Fed.refused.Tie as tie
+use Rattle.hash.proofs.Hash.refused.Statement.{statement}
+use Rattle.hash.proofs.Hash.refused.Tie as tie
 
 zero-requires : tie.Need-zero-requires
 zero-requires c κs = search needs
