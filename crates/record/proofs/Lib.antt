@@ -1,3 +1,4 @@
 -- The laws of the crate record.
 pub mod Powers
 pub mod Whole
+pub mod Unique

@@ -7,7 +7,7 @@ use native.Mathlib.Nat.{zero-add}
 use native.Mathlib.Omega.{arith}
 use borrow.Author.Tests.{le-leb, lt-leb, leb-true, leb-false}
 use lib.Dec.{leb}
-use lib.ListN.{length, drop}
+use lib.ListN.{length, drop, length-append}
 use Rattle.place.specs.Put.{Wrote}
 use Rattle.show.specs.Lines.{roomFor, Line}
 
@@ -31,3 +31,15 @@ line-made {n} {r} {text} {out} {out′} e w =
 pub no-room : (n : ℕ) (text out : List ℕ) → leb (roomFor n) (length out) ≡ false → Line n text out out 0
 no-room n text out e =
     record { out-is = sym (ap (λ (b : Bool). cond b (text ++ drop (length text) out) out) e); length-is = sym (ap (λ (b : Bool). cond b (length text) 0) e) }
+
+-- a line lies within the buffer
+pub line-within : {n r : ℕ} {text out out′ : List ℕ} → Line n text out out′ r → r ≤ length out′
+line-within {n} {r} {text} {out} {out′} l = by-test (leb (roomFor n) (length out)) refl
+  where
+    by-test : (b : Bool) → leb (roomFor n) (length out) ≡ b → r ≤ length out′
+    by-test true e =
+        let o : length out′ ≡ length text + length (drop (length text) out) =
+        ap length (l .out-is ∙ ap (λ (b : Bool). cond b (text ++ drop (length text) out) out) e) ∙ length-append text (drop (length text) out) in
+        let q : r ≡ length text = l .length-is ∙ ap (λ (b : Bool). cond b (length text) 0) e in
+        omega arith
+    by-test false e = let q : r ≡ 0 = l .length-is ∙ ap (λ (b : Bool). cond b (length text) 0) e in omega arith

@@ -162,18 +162,40 @@ more-has-room last held e = by (view held)
         absurd (let z : _≡_ {A = ℕ} 0 1 = cc (step-wrong last held r h here) in omega arith)
     by (frame kind taken w) = absurd (let z : _≡_ {A = ℕ} 0 1 = cc (step-frame last held kind taken w) in omega arith)
 
--- and never of the last bytes
+-- the last bytes decide: where a frame is cut there, the reader stops
+step-last : (held : List ℕ) → frontOf held ≡ Stop cutShort → (r : ℕ) × (End r ≡ stepOf true held)
+step-last held e = by-test (eqb (length held) 0) refl
+  where
+    by-test : (b : Bool) → eqb (length held) 0 ≡ b → (r : ℕ) × (End r ≡ stepOf true held)
+    by-test true z = (0, nothing-held true held (eqb-true (length held) 0 z))
+    by-test false z = (cutShort, some-held true held (Stop cutShort) (eqb-false (length held) 0 z) (sym e))
+
 pub last-decides : (held : List ℕ) → stepOf true held ≡ More → ⊥
 last-decides held e = by (view held)
   where
     by : View held → ⊥
-    by (cut f short) = at-last (eqb (length held) 0) refl
-      where
-        at-last : (b : Bool) → eqb (length held) 0 ≡ b → ⊥
-        at-last true z = let y : _≡_ {A = ℕ} 0 1 = cc (nothing-held true held (eqb-true (length held) 0 z)) in omega arith
-        at-last false z = let y : _≡_ {A = ℕ} 0 1 = cc (some-held true held (Stop cutShort) (eqb-false (length held) 0 z) (sym f)) in omega arith
+    by (cut f short) = let z : _≡_ {A = ℕ} 0 1 = cc (step-last held f .1) in omega arith
     by (wrong r h f) =
         let here : frontOf held ≡ Stop r = ap frontOf (sym (append-nil held)) ∙ f [] in
         let z : _≡_ {A = ℕ} 0 1 = cc (step-wrong true held r h here) in
         omega arith
     by (frame kind taken w) = let z : _≡_ {A = ℕ} 0 1 = cc (step-frame true held kind taken w) in omega arith
+
+-- a frame is reported only where it stands whole
+not-cut : (last : Bool) (held : List ℕ) (kind taken : ℕ) → frontOf held ≡ Stop cutShort → Frame kind taken ≡ stepOf last held → ⊥
+not-cut true held kind taken f e = let z : _≡_ {A = ℕ} 0 1 = cc (step-last held f .1) in omega arith
+not-cut false held kind taken f e = let z : _≡_ {A = ℕ} 0 1 = cc (step-more held f) in omega arith
+
+pub reported-whole : (last : Bool) (held : List ℕ) (kind taken : ℕ) → Frame kind taken ≡ stepOf last held → IsWhole held kind taken
+reported-whole last held kind taken e = by (view held)
+  where
+    by : View held → IsWhole held kind taken
+    by (cut f short) = absurd (not-cut last held kind taken f e)
+    by (wrong r h f) =
+        let here : frontOf held ≡ Stop r = ap frontOf (sym (append-nil held)) ∙ f [] in
+        absurd (let z : _≡_ {A = ℕ} 0 1 = cc (step-wrong last held r h here) in omega arith)
+    by (frame k t w) =
+        let same : Frame kind taken ≡ Frame k t = e ∙ sym (step-frame last held k t w) in
+        let p : k ≡ kind = cc in
+        let q : t ≡ taken = cc in
+        subst (λ (x : ℕ). IsWhole held x taken) p (subst (λ (x : ℕ). IsWhole held k x) q w)

@@ -1,14 +1,18 @@
--- Two answers that meet a promise of the crate window are equal. (A step's promise is an equation.) Assumes nothing.
-use Prim.Native.Nat.{ℕ}
-use mathlib.Core.Bool.{Bool}
-use mathlib.Core.Path.{_≡_, sym, _∙_}
-use mathlib.Core.List.{List}
-use Rattle.window.specs.declared.Step.{Step}
-use Rattle.window.specs.Step.{stepOf}
-use Rattle.window.specs.Slide.{Slid}
+-- For each public function, two answers that meet its contract, as the checker reads it, are equal, and so is what they
+-- leave in the window. Assumes nothing.
+use mathlib.Core.Path.{sym, _∙_}
+use denote.Ref.{now}
+use Rattle.gf2.proofs.Promise.{Unique, UniqueMemory}
+use Rattle.window.proofs.next_step.Kinds as next-step-kinds
+use Rattle.window.proofs.next_step.Reads as next-step-reads
+use Rattle.window.proofs.slide.Kinds as slide-kinds
+use Rattle.window.proofs.slide.Reads as slide-reads
 
-pub one-step : (last : Bool) (held : List ℕ) {r₁ r₂ : Step} → r₁ ≡ stepOf last held → r₂ ≡ stepOf last held → r₁ ≡ r₂
-one-step last held p q = p ∙ sym q
+pub next-step-unique : Unique 1 next-step-kinds.ps next-step-kinds.r next-step-reads.Post
+next-step-unique κs a x y e f p q = p ∙ sym q
 
-pub one-slide : {w w₁ w₂ : List ℕ} {from to r₁ r₂ : ℕ} → Slid w from to w₁ r₁ → Slid w from to w₂ r₂ → (w₁ ≡ w₂) × (r₁ ≡ r₂)
-one-slide a b = (a .window-is ∙ sym (b .window-is), a .held-is ∙ sym (b .held-is))
+pub slide-unique : Unique 1 slide-kinds.ps slide-kinds.r slide-reads.Post
+slide-unique κs a x y e f p q = p .held-is ∙ sym (q .held-is)
+
+pub slide-memory-unique : UniqueMemory 1 slide-kinds.ps slide-kinds.r slide-reads.Post (λ κs e. now (e .0))
+slide-memory-unique κs a x y e f p q = p .window-is ∙ sym (q .window-is)

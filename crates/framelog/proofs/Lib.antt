@@ -1,0 +1,3 @@
+-- The laws of the program framelog.
+pub mod Places
+pub mod Texts
