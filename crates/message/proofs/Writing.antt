@@ -2,17 +2,19 @@
 -- whole frame. Assumes nothing.
 use Prim.Native.Nat.{ℕ, _+_, _-_, _*_, _/_, _%_, _≤_, _<_}
 use mathlib.Core.Path.{_≡_, refl, sym, ap, ap₂, _∙_}
-use mathlib.Core.Bool.{true, false, not}
+use mathlib.Core.Bool.{true, false, not, cond}
 use mathlib.Core.List.{List, [], _∷_, _++_, append-assoc}
 use mathlib.Core.Logic.{_⊎_}
 use native.Mathlib.Omega.{arith}
 use borrow.Author.Tests.{not-false}
+use lib.Dec.{eqb}
 use lib.ListN.{length, take, drop, length-append}
 use lib.Seq.{take-at, drop-at}
 use Rattle.gf2.specs.Bytes.{bytesOf}
-use Rattle.answer.specs.Answers.{unknownKind, lengthForKind}
+use Rattle.answer.specs.Answers.{done, unknownKind, lengthForKind}
 use Rattle.answer.specs.First.{_⇒_}
 use Rattle.answer.proofs.First.{Passed, Told, all-passed, then-passed, both-done}
+use Rattle.aead.specs.Calls.{written}
 use Rattle.aead.proofs.Done.{seal-done, sealable}
 use Rattle.siv.specs.Siv.{sealed, sealAnswer}
 use Rattle.frame.specs.Kinds.{isKnown, isAllowed, maxFramePlaintext}
@@ -21,7 +23,7 @@ use Rattle.frame.proofs.Whole.{IsWhole, whole-is, allowed-bounds}
 use Rattle.frame.proofs.Longest.{IsFrame}
 use Rattle.message.specs.Parts.{header, adOf, frameOf, adIn, nonceIn, sealedIn}
 use Rattle.message.specs.Message.{contentAnswer}
-use Rattle.message.specs.Write.{kindAnswer, plainAnswer, writeAnswer}
+use Rattle.message.specs.Write.{kindAnswer, plainAnswer, writeAnswer, writtenOf, writeOut}
 use Rattle.siv.proofs.Sealing.{sealed-length}
 
 -- a kind with an allowed length and content, a key of 16 or 32 bytes, a nonce of 12, and room
@@ -126,6 +128,17 @@ frame-length kind key nonce text twelve =
     length-append (adOf kind text) (nonce ++ sealed key nonce (adOf kind text) text)
     ∙ ap₂ _+_ (ad-length kind text) (length-append nonce (sealed key nonce (adOf kind text) text))
     ∙ omega (arith, sealed-length key nonce (adOf kind text) text)
+
+-- a writing that is not refused: 0 with n + 32 bytes, the frame at the front of the output, and what follows it as it was
+pub written-whole : (kind : ℕ) (key nonce text out : List ℕ) → Writable kind key nonce text (length out)
+    → (writtenOf kind key nonce text (length out) ≡ record { answer = 0; len = length text + 32 }) × (writeOut kind key nonce text out ≡ frameOf kind key nonce text ++ drop (length text + 32) out)
+unfolding writtenOf writeOut
+written-whole kind key nonce text out w =
+    let e = write-done kind key nonce text (length out) w in (
+      (λ i. record { answer = e i; len = cond (eqb (e i) done) (length text + 32) 0 }),
+      (λ i. written (e i) (frameOf kind key nonce text) out)
+          ∙ ap (λ n. frameOf kind key nonce text ++ drop n out) (frame-length kind key nonce text (w .nonce-length)),
+    )
 
 -- what is written is a whole frame
 pub whole-frame : (kind : ℕ) (key nonce text : List ℕ) → isKnown kind ≡ true → isAllowed kind (length text + 16) ≡ true → length nonce ≡ 12
