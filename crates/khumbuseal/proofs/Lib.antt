@@ -1,0 +1,2 @@
+-- Laws of the crate khumbuseal.
+pub mod Laws

@@ -1,0 +1,2 @@
+-- What the contracts of the crate khumbuseal cite.
+pub mod Frames

@@ -1,0 +1,128 @@
+// Frames, positions and the scan for C. Assumes nothing.
+use frame::Front;
+use frame::position::Position;
+ghost use mathlib.Core.Path.{_≡_};
+ghost use mathlib.Core.Bool.{cond};
+ghost use lib.ListN.{length, take};
+ghost use Rattle.frame.specs.Front.{frontOf};
+ghost use Rattle.frame.specs.Position.{positionOf, positionBytes, inRange};
+ghost use Rattle.frame.specs.Scan.{Scanned, scanOf};
+ghost use Rattle.message.specs.Write.{Writes};
+ghost use Rattle.khumbuseal.specs.Frames.{frontCells};
+
+// Writes a frame of this kind, sealed, to the front of out, and how many bytes it has.
+#[no_mangle]
+pub extern "C" fn khumbuseal_frame_write(
+    kind: u8,
+    key: &[u8],
+    nonce: &[u8],
+    plaintext: &[u8],
+    out: &mut [u8],
+    written: &mut usize,
+) -> u8
+    ensures { λ r. ⌜ Writes kind (now (key .entry)) (now (nonce .entry)) (now (plaintext .entry)) (now (out .entry)) (record { answer = r; len = now (written .exit) }) (now (out .exit)) ⌝ }
+{
+    let made = message::write(kind, key, nonce, plaintext, out);
+    *written = made.len;
+    made.answer
+}
+
+// The case of a front as three numbers.
+pub struct FrontCells {
+    pub answer: u8,
+    pub kind: u8,
+    pub taken: usize,
+}
+
+// A whole frame's kind and bytes, or the reason with zeros.
+fn flattened(front: Front) -> FrontCells
+    ensures { λ r. ⌜ r ≡ frontCells front ⌝ }
+{
+    match front {
+        Front::Whole { kind, taken } => FrontCells {
+            answer: answer::DONE,
+            kind,
+            taken,
+        },
+        Front::Stop(reason) => FrontCells {
+            answer: reason,
+            kind: 0,
+            taken: 0,
+        },
+    }
+}
+
+// What stands at the front of s: the kind of a whole frame and its bytes, or why there is none.
+#[no_mangle]
+pub extern "C" fn khumbuseal_frame_front(s: &[u8], kind: &mut u8, taken: &mut usize) -> u8
+    ensures { λ r. ⌜ frontCells (frontOf (now (s .entry))) ≡ record { answer = r; kind = now (kind .exit); taken = now (taken .exit) } ⌝ }
+{
+    let found = flattened(frame::front_of(s));
+    *kind = found.kind;
+    *taken = found.taken;
+    found.answer
+}
+
+// The length of the longest prefix of log that is made of whole frames, how many they are, and why it stopped.
+#[no_mangle]
+pub extern "C" fn khumbuseal_scan(log: &[u8], frames: &mut u64, stop: &mut u8) -> usize
+    ensures { λ r. ⌜ scanOf (now (log .entry)) ≡ record { taken = r; frames = now (frames .exit); stop = now (stop .exit) } ⌝ }
+{
+    let part = frame::scan(log, frames, stop);
+    part.len()
+}
+
+// The sixteen bytes of a position, in range or not.
+#[no_mangle]
+pub extern "C" fn khumbuseal_position_to_bytes(
+    lat: i32,
+    lon: i32,
+    alt: i32,
+    time: u32,
+    bytes: &mut [u8; 16],
+)
+    ensures { λ _. ⌜ now (bytes .exit) ≡ positionBytes (record { lat = lat; lon = lon; alt = alt; time = time }) ⌝ }
+{
+    let spelled = Position {
+        lat,
+        lon,
+        alt,
+        time,
+    }.to_bytes();
+    *bytes = spelled;
+}
+
+// The position that sixteen bytes spell, in range or not.
+#[no_mangle]
+pub extern "C" fn khumbuseal_position_from_bytes(
+    bytes: &[u8; 16],
+    lat: &mut i32,
+    lon: &mut i32,
+    alt: &mut i32,
+    time: &mut u32,
+)
+    ensures { λ _. ⌜ positionOf (now (bytes .entry)) ≡ record { lat = now (lat .exit); lon = now (lon .exit); alt = now (alt .exit); time = now (time .exit) } ⌝ }
+{
+    let p = Position::from_bytes(*bytes);
+    let a = p.lat;
+    let o = p.lon;
+    let h = p.alt;
+    *lat = a;
+    *lon = o;
+    *alt = h;
+    *time = p.time;
+}
+
+// Whether a frame may hold this position: 1 or 0. Its time may be any.
+#[no_mangle]
+pub extern "C" fn khumbuseal_position_is_in_range(lat: i32, lon: i32, alt: i32) -> u8
+    ensures { λ r. ⌜ r ≡ cond (inRange (record { lat = lat; lon = lon; alt = alt; time = 0 })) 1 0 ⌝ }
+{
+    let p = Position {
+        lat,
+        lon,
+        alt,
+        time: 0,
+    };
+    p.is_in_range() as u8
+}
