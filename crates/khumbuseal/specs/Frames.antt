@@ -2,9 +2,26 @@
 use Rattle.answer.specs.Answers.{done}
 use Rattle.frame.specs.declared.Front.{Front}
 use Rattle.frame.specs.declared.Front.the-variants.{Whole, Stop}
+use Rattle.message.specs.declared.Message.{Message}
+use Rattle.message.specs.Message.{valuesOf}
 use Rattle.khumbuseal.specs.declared.frames.FrontCells.{FrontCells}
+use Rattle.khumbuseal.specs.declared.frames.MessageCells.{MessageCells}
 
 -- a whole frame's kind and bytes; a reason to stop, with zeros
 abbrev pub frontCells : Front → FrontCells
 frontCells (Whole kind taken) = record { answer = done; kind = kind; taken = taken }
 frontCells (Stop r) = record { answer = r; kind = 0; taken = 0 }
+
+-- the number and the values of each case of a message, and zero where it has none
+abbrev pub messageCells : Message → MessageCells
+messageCells m =
+    record {
+      answer = valuesOf m .answer;
+      kind = valuesOf m .kind;
+      lat = valuesOf m .lat;
+      lon = valuesOf m .lon;
+      alt = valuesOf m .alt;
+      time = valuesOf m .time;
+      len = valuesOf m .len;
+      taken = valuesOf m .taken;
+    }

@@ -1,2 +1,4 @@
 -- What the contracts of the crate khumbuseal cite.
 pub mod Frames
+pub mod Hashing
+pub mod Ghashing

@@ -1,14 +1,19 @@
 // Frames, positions and the scan for C. Assumes nothing.
 use frame::Front;
+use frame::kind;
 use frame::position::Position;
+use message::Message;
 ghost use mathlib.Core.Path.{_≡_};
 ghost use mathlib.Core.Bool.{cond};
-ghost use lib.ListN.{length, take};
+ghost use lib.IntN.{pos};
+ghost use lib.ListN.{length};
 ghost use Rattle.frame.specs.Front.{frontOf};
 ghost use Rattle.frame.specs.Position.{positionOf, positionBytes, inRange};
-ghost use Rattle.frame.specs.Scan.{Scanned, scanOf};
+ghost use Rattle.frame.specs.Scan.{scanOf};
+ghost use Rattle.message.specs.Message.{valuesOf};
 ghost use Rattle.message.specs.Write.{Writes};
-ghost use Rattle.khumbuseal.specs.Frames.{frontCells};
+ghost use Rattle.message.specs.Read.{readOf, readOut};
+ghost use Rattle.khumbuseal.specs.Frames.{frontCells, messageCells};
 
 // Writes a frame of this kind, sealed, to the front of out, and how many bytes it has.
 #[no_mangle]
@@ -60,6 +65,92 @@ pub extern "C" fn khumbuseal_frame_front(s: &[u8], kind: &mut u8, taken: &mut us
     let found = flattened(frame::front_of(s));
     *kind = found.kind;
     *taken = found.taken;
+    found.answer
+}
+
+// The case of a message as eight numbers.
+pub struct MessageCells {
+    pub answer: u8,
+    pub kind: u8,
+    pub lat: i32,
+    pub lon: i32,
+    pub alt: i32,
+    pub time: u32,
+    pub len: usize,
+    pub taken: usize,
+}
+
+// A case that has no position.
+fn placeless(answer: u8, kind: u8, len: usize, taken: usize) -> MessageCells
+    ensures { λ r. ⌜ r ≡ record { answer = answer; kind = kind; lat = pos 0; lon = pos 0; alt = pos 0; time = 0; len = len; taken = taken } ⌝ }
+{
+    MessageCells {
+        answer,
+        kind,
+        lat: 0,
+        lon: 0,
+        alt: 0,
+        time: 0,
+        len,
+        taken,
+    }
+}
+
+// Each case's number and values, and zero where it has none.
+fn cells_of(m: Message) -> MessageCells
+    ensures { λ r. ⌜ r ≡ messageCells m ⌝ }
+{
+    match m {
+        Message::Position {
+            lat,
+            lon,
+            alt,
+            time,
+            taken,
+        } => MessageCells {
+            answer: answer::DONE,
+            kind: kind::POSITION,
+            lat,
+            lon,
+            alt,
+            time,
+            len: 0,
+            taken,
+        },
+        Message::Text { len, taken } => placeless(answer::DONE, kind::TEXT, len, taken),
+        Message::CheckIn { taken } => placeless(answer::DONE, kind::CHECK_IN, 0, taken),
+        Message::Refused(reason) => placeless(reason, 0, 0, 0),
+    }
+}
+
+// Reads the frame at the front of s: its plaintext to the front of out, and what it says to the cells.
+#[no_mangle]
+pub extern "C" fn khumbuseal_frame_read(
+    key: &[u8],
+    s: &[u8],
+    out: &mut [u8],
+    kind: &mut u8,
+    len: &mut usize,
+    taken: &mut usize,
+    lat: &mut i32,
+    lon: &mut i32,
+    alt: &mut i32,
+    time: &mut u32,
+) -> u8
+    ensures cells { λ r. ⌜ valuesOf (readOf (now (key .entry)) (now (s .entry)) (length (now (out .entry)))) ≡ record { answer = r; kind = now (kind .exit); lat = now (lat .exit); lon = now (lon .exit); alt = now (alt .exit); time = now (time .exit); len = now (len .exit); taken = now (taken .exit) } ⌝ }
+    ensures memory { λ _. ⌜ now (out .exit) ≡ readOut (now (key .entry)) (now (s .entry)) (now (out .entry)) ⌝ }
+{
+    let found = cells_of(message::read(key, s, out));
+    let a = found.lat;
+    let o = found.lon;
+    let h = found.alt;
+    *kind = found.kind;
+    *len = found.len;
+    *taken = found.taken;
+    *lat = a;
+    *lon = o;
+    *alt = h;
+    *time = found.time;
     found.answer
 }
 

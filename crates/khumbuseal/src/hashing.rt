@@ -1,0 +1,148 @@
+// POLYVAL for C: hash records as byte strings of a fixed size. Any bytes are a record. A record is rewritten
+// on answer 0 alone. Assumes nothing.
+use hash::Hash;
+use polyval::route::Route;
+use record::RECORD_SIZE;
+ghost use mathlib.Core.Path.{_≡_};
+ghost use mathlib.Core.Bool.{cond};
+ghost use Rattle.polyval.specs.Key.{checkOf};
+ghost use Rattle.hash.specs.Calls.{startOf, wholeOf, paddedOf, pieceOf, finishOf, resetOf};
+ghost use Rattle.join.specs.Join.{joinOf};
+ghost use Rattle.record.specs.Bytes.{recordOf, recordBytes};
+ghost use Rattle.khumbuseal.specs.Hashing.{routeOf, stored, Stores, Joins};
+
+// The route of a number: 1 narrow, 2 R/F, any other wide.
+fn route_of(number: u8) -> Route
+    ensures { λ r. ⌜ r ≡ routeOf number ⌝ }
+{
+    match number {
+        1 => Route::Narrow,
+        2 => Route::Rf,
+        _ => Route::Wide,
+    }
+}
+
+// The record that a call made goes to its cell where the answer is 0.
+fn store(answer: u8, made: Hash, cell: &mut [u8; RECORD_SIZE])
+    ensures { λ _. ⌜ now (cell .exit) ≡ stored answer (recordBytes made) (now (cell .entry)) ⌝ }
+{
+    if answer == answer::DONE {
+        let bytes = record::encode(made);
+        *cell = bytes;
+    }
+}
+
+// Makes a record under a key of 16 bytes.
+#[no_mangle]
+pub extern "C" fn khumbuseal_hash_start(
+    cell: &mut [u8; RECORD_SIZE],
+    key: &[u8],
+    multiplies: &mut u64,
+) -> u8
+    ensures { λ r. ⌜ Stores (startOf (now (key .entry))) (now (cell .entry)) r (now (cell .exit)) (now (multiplies .exit)) ⌝ }
+{
+    let made = Hash::start(key);
+    *multiplies = made.multiplies;
+    store(made.answer, made.hash, cell);
+    made.answer
+}
+
+// Feeds whole blocks.
+#[no_mangle]
+pub extern "C" fn khumbuseal_hash_feed_blocks(
+    cell: &mut [u8; RECORD_SIZE],
+    route: u8,
+    s: &[u8],
+    multiplies: &mut u64,
+) -> u8
+    ensures { λ r. ⌜ Stores (wholeOf (routeOf route) (recordOf (now (cell .entry))) (now (s .entry))) (now (cell .entry)) r (now (cell .exit)) (now (multiplies .exit)) ⌝ }
+{
+    let made = record::decode(*cell).feed_blocks(route_of(route), s);
+    *multiplies = made.multiplies;
+    store(made.answer, made.hash, cell);
+    made.answer
+}
+
+// Feeds blocks of which the last may be short, and is filled with zeros.
+#[no_mangle]
+pub extern "C" fn khumbuseal_hash_feed_padded(
+    cell: &mut [u8; RECORD_SIZE],
+    route: u8,
+    s: &[u8],
+    multiplies: &mut u64,
+) -> u8
+    ensures { λ r. ⌜ Stores (paddedOf (routeOf route) (recordOf (now (cell .entry))) (now (s .entry))) (now (cell .entry)) r (now (cell .exit)) (now (multiplies .exit)) ⌝ }
+{
+    let made = record::decode(*cell).feed_padded(route_of(route), s);
+    *multiplies = made.multiplies;
+    store(made.answer, made.hash, cell);
+    made.answer
+}
+
+// Feeds any bytes: what does not fill a block waits in the record.
+#[no_mangle]
+pub extern "C" fn khumbuseal_hash_feed_piece(
+    cell: &mut [u8; RECORD_SIZE],
+    route: u8,
+    s: &[u8],
+    multiplies: &mut u64,
+) -> u8
+    ensures { λ r. ⌜ Stores (pieceOf (routeOf route) (recordOf (now (cell .entry))) (now (s .entry))) (now (cell .entry)) r (now (cell .exit)) (now (multiplies .exit)) ⌝ }
+{
+    let made = record::decode(*cell).feed_piece(route_of(route), s);
+    *multiplies = made.multiplies;
+    store(made.answer, made.hash, cell);
+    made.answer
+}
+
+// The tag of all that was fed. The record is as it was.
+#[no_mangle]
+pub extern "C" fn khumbuseal_hash_finish(
+    cell: &[u8; RECORD_SIZE],
+    route: u8,
+    tag: &mut [u8; 16],
+    multiplies: &mut u64,
+) -> u8
+    ensures { λ r. ⌜ finishOf (routeOf route) (recordOf (now (cell .entry))) ≡ record { answer = r; tag = now (tag .exit); multiplies = now (multiplies .exit) } ⌝ }
+{
+    let made = record::decode(*cell).finish(route_of(route));
+    let bytes = made.tag;
+    *tag = bytes;
+    *multiplies = made.multiplies;
+    made.answer
+}
+
+// The same key, with nothing absorbed and nothing pending. It spends nothing.
+#[no_mangle]
+pub extern "C" fn khumbuseal_hash_reset(cell: &mut [u8; RECORD_SIZE]) -> u8
+    ensures { λ r. ⌜ Stores (resetOf (recordOf (now (cell .entry)))) (now (cell .entry)) r (now (cell .exit)) 0 ⌝ }
+{
+    let made = record::decode(*cell).reset();
+    store(made.answer, made.hash, cell);
+    made.answer
+}
+
+// The first record becomes that of both parts, of which the second has so many blocks.
+#[no_mangle]
+pub extern "C" fn khumbuseal_hash_join(
+    first: &mut [u8; RECORD_SIZE],
+    second: &[u8; RECORD_SIZE],
+    blocks: u64,
+    dots: &mut u64,
+) -> u8
+    ensures { λ r. ⌜ Joins (joinOf (recordOf (now (first .entry))) (recordOf (now (second .entry))) blocks) (now (first .entry)) r (now (first .exit)) (now (dots .exit)) ⌝ }
+{
+    let made = join::join(record::decode(*first), record::decode(*second), blocks);
+    *dots = made.dots;
+    store(made.answer, made.hash, first);
+    made.answer
+}
+
+// Whether every stored power and D value belongs to the stored H: 1 or 0.
+#[no_mangle]
+pub extern "C" fn khumbuseal_hash_key_belongs(cell: &[u8; RECORD_SIZE]) -> u8
+    ensures { λ r. ⌜ r ≡ cond (checkOf (recordOf (now (cell .entry)) .key)) 1 0 ⌝ }
+{
+    let held = record::decode(*cell);
+    held.key.check() as u8
+}
