@@ -1,7 +1,8 @@
 // The files that a program is given by name. Where a call fails, the file's name and the system's reason
 // go to standard error. What is read is the system's: no contract can speak of it, and these say only
-// that a count lies within the buffer. Assumes nothing beyond what io, os and libc assume.
-ghost use Rattle.io.specs.Counts.{Counts};
+// that a count lies within the buffer and is 0 after a failure. Assumes nothing beyond what io, os and
+// libc assume.
+ghost use Rattle.files.specs.Files.{Opened, Read};
 
 // How many bytes were read; 0 where the file is at its end, and where it failed.
 pub struct Got {
@@ -9,26 +10,31 @@ pub struct Got {
     pub count: usize,
 }
 
+// What a failed read counts.
+const NOTHING: usize = 0;
+
 // A descriptor for reading the file at path, or -1.
-pub fn open(path: &[u8]) -> i32 {
-    let fd = os::open_read(path);
-    if fd < 0 {
+pub fn open(path: &[u8]) -> i32
+    ensures { λ r. ⌜ Opened r ⌝ }
+{
+    let opened = os::open_read(path);
+    if opened < 0 {
         os::fail(path);
         return -1;
     }
-    fd
+    opened
 }
 
 // One read to the front of buf, of any count that the system chooses.
 pub fn read(fd: i32, path: &[u8], buf: &mut [u8]) -> Got
-    ensures { λ r. ⌜ Counts (r .count) (now (buf .exit)) ⌝ }
+    ensures { λ r. ⌜ Read r (now (buf .exit)) ⌝ }
 {
     let got = libc::read(fd, buf);
     if got < 0 {
         os::fail(path);
         return Got {
             failed: true,
-            count: 0,
+            count: NOTHING,
         };
     }
     Got {
@@ -39,7 +45,7 @@ pub fn read(fd: i32, path: &[u8], buf: &mut [u8]) -> Got
 
 // Reads until buf is full or the file ends.
 fn fill(fd: i32, path: &[u8], buf: &mut [u8]) -> Got
-    ensures { λ r. ⌜ Counts (r .count) (now (buf .exit)) ⌝ }
+    ensures { λ r. ⌜ Read r (now (buf .exit)) ⌝ }
 {
     let mut n = 0;
     while n < buf.len() {
@@ -47,7 +53,7 @@ fn fill(fd: i32, path: &[u8], buf: &mut [u8]) -> Got
         if got.failed {
             return Got {
                 failed: true,
-                count: 0,
+                count: NOTHING,
             };
         }
         if got.count == 0 {
@@ -66,13 +72,13 @@ fn fill(fd: i32, path: &[u8], buf: &mut [u8]) -> Got
 
 // The first bytes of the file at path, as many as buf has room for.
 pub fn fetch(path: &[u8], buf: &mut [u8]) -> Got
-    ensures { λ r. ⌜ Counts (r .count) (now (buf .exit)) ⌝ }
+    ensures { λ r. ⌜ Read r (now (buf .exit)) ⌝ }
 {
     let fd = open(path);
     if fd < 0 {
         return Got {
             failed: true,
-            count: 0,
+            count: NOTHING,
         };
     }
     let got = fill(fd, path, buf);

@@ -1,5 +1,4 @@
 // A byte string put at a place of a lent buffer: what writes piece after piece is made of. Assumes nothing.
-ghost use mathlib.Core.Path.{_≡_};
 ghost use Rattle.place.specs.Put.{Puts};
 
 // Puts s at the place at of out and answers the place behind it. Where out has no room there, it is left

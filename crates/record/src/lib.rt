@@ -9,11 +9,11 @@ use polyval::key::Power;
 ghost use mathlib.Core.Path.{_≡_};
 ghost use mathlib.Core.List.{[], _∷_};
 ghost use Prim.Native.Nat.{_+_, _*_, _≤_};
-ghost use lib.ListN.{length, take, drop};
-ghost use Rattle.gf2.specs.Bytes.{number, bytesOf};
+ghost use lib.ListN.{length};
+ghost use Rattle.gf2.specs.Bytes.{bytesOf};
 ghost use Rattle.place.specs.Put.{Wrote};
 ghost use Rattle.polyval.specs.Key.{powerCount};
-ghost use Rattle.record.specs.Bytes.{elementBytes, powersBytes, recordBytes, keySize, powerIn, powersAt, recordOf};
+ghost use Rattle.record.specs.Bytes.{powersBytes, recordBytes, keySize, powerIn, powersAt, recordOf};
 
 // The bytes of the stored key: 32 for each power.
 const KEY_SIZE: usize = POWERS * 32;

@@ -1,14 +1,13 @@
+-- `files::fill` meets its contract. Assumes nothing.
 use native.Mathlib.Omega.{arith}
 use Rattle.io.proofs.Counting.{counts}
 use Prim.Native.Nat.{_-_, _≤_}
 use mathlib.Core.Path.{_≡_}
 use borrow.Author.Needs.{needs}
 use lib.ListN.{length}
+use Rattle.files.proofs.Answers.{succeeded}
 use Rattle.files.proofs.fill.Statement.{statement}
 use Rattle.files.proofs.fill.Tie as tie
-use Rattle.files.proofs.fill.Reads as reads
-use Rattle.files.proofs.fill.Lts as lts
-use Rattle.files.proofs.read.Reads as read-reads
 
 abbrev Inv-loop : tie.InvT-loop
 Inv-loop fd path buf₀ n₀ buf n = (n ≤ length buf) × (length buf ≡ length buf₀)
@@ -16,47 +15,11 @@ Inv-loop fd path buf₀ n₀ buf n = (n ≤ length buf) × (length buf ≡ lengt
 abbrev μ-loop : tie.MeasureT-loop
 μ-loop fd path buf₀ n₀ buf n = length buf₀ - n
 
-loop-holds : tie.Need-loop-holds Inv-loop μ-loop
-loop-holds c = search needs
-
-sub-read : tie.Need-sub-read Inv-loop μ-loop
-sub-read c = search needs
-
-part-read-start : tie.Need-part-read-start Inv-loop μ-loop
-part-read-start c = search needs
-
-part-read-end : tie.Need-part-read-end Inv-loop μ-loop
-part-read-end c = search needs
-
-read-requires : tie.Need-read-requires Inv-loop μ-loop
-read-requires c κs = search needs
-
-same-length : tie.Need-same-length Inv-loop μ-loop
-same-length c = search needs
-
-returns : tie.Need-returns Inv-loop μ-loop
-returns c = search needs
-
-same-length-2 : tie.Need-same-length-2 Inv-loop μ-loop
-same-length-2 c = search needs
-
 returns-2 : tie.Need-returns-2 Inv-loop μ-loop
-returns-2 c = counts _ _ (omega arith)
-
-add-n : tie.Need-add-n Inv-loop μ-loop
-add-n c = search needs
-
-loop-less : tie.Need-loop-less Inv-loop μ-loop
-loop-less c = search needs
-
-loop-again : tie.Need-loop-again Inv-loop μ-loop
-loop-again c = search needs
-
-same-length-3 : tie.Need-same-length-3 Inv-loop μ-loop
-same-length-3 c = search needs
+returns-2 c = succeeded _ _ (counts _ _ (omega arith))
 
 returns-3 : tie.Need-returns-3 Inv-loop μ-loop
-returns-3 c = counts _ _ (omega arith)
+returns-3 c = succeeded _ _ (counts _ _ (omega arith))
 
 pub fill-spec : {M : Type 1} → statement M
 fill-spec =
@@ -64,17 +27,17 @@ fill-spec =
     (tie.spec
     Inv-loop
     μ-loop
-    loop-holds
-    sub-read
-    part-read-start
-    part-read-end
-    read-requires
-    same-length
-    returns
-    same-length-2
+    (λ c. search needs)
+    (λ c. search needs)
+    (λ c. search needs)
+    (λ c. search needs)
+    (λ c κs. search needs)
+    (λ c. search needs)
+    (λ c. search needs)
+    (λ c. search needs)
     returns-2
-    add-n
-    loop-less
-    loop-again
-    same-length-3
+    (λ c. search needs)
+    (λ c. search needs)
+    (λ c. search needs)
+    (λ c. search needs)
     returns-3)

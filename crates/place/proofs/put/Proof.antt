@@ -1,3 +1,4 @@
+-- `place::put` meets its contract. Assumes nothing.
 use Prim.Native.Nat.{ℕ, _+_, _-_, _≤_}
 use mathlib.Core.Path.{_≡_, refl}
 use native.Mathlib.Nat.{add-zero}
@@ -9,8 +10,6 @@ use Rattle.place.specs.Put.{Wrote}
 use Rattle.place.proofs.Written.{wrote-none, wrote-one, then, wrote-as, wrote-so, take-more, wrote-put, no-room}
 use Rattle.place.proofs.put.Statement.{statement}
 use Rattle.place.proofs.put.Tie as tie
-use Rattle.place.proofs.put.Reads as reads
-use Rattle.place.proofs.put.Lts as lts
 
 abbrev Inv-loop : tie.InvT-loop
 Inv-loop out₀ at s i₀ out i = (i ≤ length s) × (at + length s ≤ length out₀) × (length out ≡ length out₀) × Wrote out₀ at (take i s) out (at + i)
@@ -18,26 +17,8 @@ Inv-loop out₀ at s i₀ out i = (i ≤ length s) × (at + length s ≤ length 
 abbrev μ-loop : tie.MeasureT-loop
 μ-loop out₀ at s i₀ out i = length s - i
 
-sub-if2 : tie.Need-sub-if2 Inv-loop μ-loop
-sub-if2 c = search needs
-
 loop-holds : tie.Need-loop-holds Inv-loop μ-loop
 loop-holds c = (omega arith, omega arith, refl, wrote-so (wrote-none _ _) (add-zero _))
-
-shared-slice-read-out : tie.Need-shared-slice-read-out Inv-loop μ-loop
-shared-slice-read-out c = search needs
-
-add-out : tie.Need-add-out Inv-loop μ-loop
-add-out c = search needs
-
-slice-write-out : tie.Need-slice-write-out Inv-loop μ-loop
-slice-write-out c = search needs
-
-add-i : tie.Need-add-i Inv-loop μ-loop
-add-i c = search needs
-
-loop-less : tie.Need-loop-less Inv-loop μ-loop
-loop-less c = search needs
 
 loop-again : tie.Need-loop-again Inv-loop μ-loop
 loop-again c =
@@ -45,12 +26,6 @@ loop-again c =
     let start = c .before .before .before .before .before in
     let byte : ℕ = getD (start .args .s .now) (l .i) 0 in
     (omega arith, omega arith, simp length-set (omega arith), wrote-so (wrote-as (take-more _ (l .i) (omega arith)) (then (omega arith) (l .inv .3) (wrote-one (l .out) (start .args .at + l .i) byte (omega arith)))) (omega arith))
-
-add-result : tie.Need-add-result Inv-loop μ-loop
-add-result c = search needs
-
-same-length : tie.Need-same-length Inv-loop μ-loop
-same-length c = search needs
 
 returns : tie.Need-returns Inv-loop μ-loop
 returns c =
@@ -69,16 +44,16 @@ put-spec =
     (tie.spec
     Inv-loop
     μ-loop
-    sub-if2
+    (λ c. search needs)
     loop-holds
-    shared-slice-read-out
-    add-out
-    slice-write-out
-    add-i
-    loop-less
+    (λ c. search needs)
+    (λ c. search needs)
+    (λ c. search needs)
+    (λ c. search needs)
+    (λ c. search needs)
     loop-again
-    add-result
-    same-length
+    (λ c. search needs)
+    (λ c. search needs)
     returns
     returns-2
     returns-3)

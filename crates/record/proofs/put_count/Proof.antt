@@ -1,3 +1,4 @@
+-- `record::put_count` meets its contract. Assumes nothing.
 use mathlib.Core.Path.{_≡_, refl, sym, ap, _∙_}
 use native.Mathlib.Omega.{arith}
 use lib.ListN.{length, take}
@@ -8,27 +9,11 @@ use Rattle.record.proofs.Whole.{eight}
 use borrow.Author.Needs.{needs}
 use Rattle.record.proofs.put_count.Statement.{statement}
 use Rattle.record.proofs.put_count.Tie as tie
-use Rattle.record.proofs.put_count.Reads as reads
-use Rattle.record.proofs.put_count.Lts as lts
-use Rattle.field.proofs.field_element.FieldElement.to_bytes.Reads as to-bytes-reads
-use Rattle.place.proofs.put.Reads as put-reads
-
-to-bytes-requires : tie.Need-to-bytes-requires
-to-bytes-requires c κs = search needs
-
-array-share-prefix-b : tie.Need-array-share-prefix-b
-array-share-prefix-b c = search needs
 
 slice-aggregate-put : tie.Need-slice-aggregate-put
 slice-aggregate-put c =
     let l : length (c .before .before .to-bytes .result) ≡ 16 = search needs in
     sym (length-take-le 8 (c .before .before .to-bytes .result) (omega arith))
-
-put-requires : tie.Need-put-requires
-put-requires c κs = search needs
-
-same-length : tie.Need-same-length
-same-length c = search needs
 
 returns : tie.Need-returns
 returns c =
@@ -42,9 +27,9 @@ pub put-count-spec : {M : Type 1} → statement M
 put-count-spec =
     tie.close
     (tie.spec
-    to-bytes-requires
-    array-share-prefix-b
+    (λ c κs. search needs)
+    (λ c. search needs)
     slice-aggregate-put
-    put-requires
-    same-length
+    (λ c κs. search needs)
+    (λ c. search needs)
     returns)

@@ -1,28 +1,10 @@
+-- `record::put_power` meets its contract. Assumes nothing.
 use native.Mathlib.Omega.{arith}
 use Rattle.place.proofs.Written.{then, wrote-as}
 use Rattle.record.proofs.Powers.{one-power}
 use borrow.Author.Needs.{needs}
 use Rattle.record.proofs.put_power.Statement.{statement}
 use Rattle.record.proofs.put_power.Tie as tie
-use Rattle.record.proofs.put_power.Reads as reads
-use Rattle.record.proofs.put_power.Lts as lts
-use Rattle.field.proofs.field_element.FieldElement.to_bytes.Reads as to-bytes-reads
-use Rattle.record.proofs.put_block.Reads as put-block-reads
-
-to-bytes-requires : tie.Need-to-bytes-requires
-to-bytes-requires c κs = search needs
-
-put-block-requires : tie.Need-put-block-requires
-put-block-requires c κs = search needs
-
-to-bytes-requires-2 : tie.Need-to-bytes-requires-2
-to-bytes-requires-2 c κs = search needs
-
-put-block-requires-2 : tie.Need-put-block-requires-2
-put-block-requires-2 c κs = search needs
-
-same-length : tie.Need-same-length
-same-length c = search needs
 
 returns : tie.Need-returns
 returns c =
@@ -36,9 +18,9 @@ pub put-power-spec : {M : Type 1} → statement M
 put-power-spec =
     tie.close
     (tie.spec
-    to-bytes-requires
-    put-block-requires
-    to-bytes-requires-2
-    put-block-requires-2
-    same-length
+    (λ c κs. search needs)
+    (λ c κs. search needs)
+    (λ c κs. search needs)
+    (λ c κs. search needs)
+    (λ c. search needs)
     returns)

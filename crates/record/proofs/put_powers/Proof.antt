@@ -1,3 +1,4 @@
+-- `record::put_powers` meets its contract. Assumes nothing.
 use Prim.Native.Nat.{_-_, _*_, _≤_}
 use mathlib.Core.Path.{_≡_, refl, ap}
 use borrow.Author.Needs.{needs}
@@ -11,9 +12,6 @@ use Rattle.record.specs.Bytes.{powersBytes, keySize}
 use Rattle.record.proofs.Powers.{one-more}
 use Rattle.record.proofs.put_powers.Statement.{statement}
 use Rattle.record.proofs.put_powers.Tie as tie
-use Rattle.record.proofs.put_powers.Reads as reads
-use Rattle.record.proofs.put_powers.Lts as lts
-use Rattle.record.proofs.put_power.Reads as put-power-reads
 
 abbrev Inv-loop : tie.InvT-loop
 Inv-loop out₀ powers at₀ i₀ out at i = (i ≤ powerCount) × (length powers ≡ powerCount) × (keySize ≤ length out₀) × (length out ≡ length out₀) × (at ≡ i * 32) × Wrote out₀ 0 (powersBytes (take i powers)) out at
@@ -24,21 +22,6 @@ abbrev μ-loop : tie.MeasureT-loop
 loop-holds : tie.Need-loop-holds Inv-loop μ-loop
 unfolding powersBytes
 loop-holds c = (omega arith, search needs, omega arith, refl, refl, wrote-none _ _)
-
-mul-put-power : tie.Need-mul-put-power Inv-loop μ-loop
-mul-put-power c = search needs
-
-array-copy-out-put-power : tie.Need-array-copy-out-put-power Inv-loop μ-loop
-array-copy-out-put-power c = search needs
-
-put-power-requires : tie.Need-put-power-requires Inv-loop μ-loop
-put-power-requires c κs = search needs
-
-add-i : tie.Need-add-i Inv-loop μ-loop
-add-i c = search needs
-
-loop-less : tie.Need-loop-less Inv-loop μ-loop
-loop-less c = search needs
 
 loop-again : tie.Need-loop-again Inv-loop μ-loop
 loop-again c =
@@ -54,9 +37,6 @@ loop-again c =
       wrote-as (one-more (start .args .t2) (l .i) (omega arith)) (then (omega arith) (l .inv .5) (put .ensures .0)),
     )
 
-same-length : tie.Need-same-length Inv-loop μ-loop
-same-length c = search needs
-
 returns : tie.Need-returns Inv-loop μ-loop
 returns c =
     let l = c .before .loop in
@@ -69,11 +49,11 @@ put-powers-spec =
     Inv-loop
     μ-loop
     loop-holds
-    mul-put-power
-    array-copy-out-put-power
-    put-power-requires
-    add-i
-    loop-less
+    (λ c. search needs)
+    (λ c. search needs)
+    (λ c κs. search needs)
+    (λ c. search needs)
+    (λ c. search needs)
     loop-again
-    same-length
+    (λ c. search needs)
     returns)

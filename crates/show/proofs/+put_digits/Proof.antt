@@ -1,3 +1,4 @@
+-- `show::put_digits` meets its contract. Assumes nothing.
 use Prim.Native.Nat.{_-_, _/_}
 use mathlib.Core.Path.{_∙_}
 use native.Mathlib.Omega.{arith}

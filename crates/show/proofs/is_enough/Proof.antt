@@ -1,3 +1,4 @@
+-- `show::is_enough` meets its contract. Assumes nothing.
 use mathlib.Core.Path.{sym}
 use native.Mathlib.Omega.{arith}
 use borrow.Author.Tests.{lt-leb}
@@ -5,8 +6,6 @@ use Rattle.show.specs.Lines.{roomFor}
 use Rattle.show.proofs.Room.{by-quarters}
 use Rattle.show.proofs.is_enough.Statement.{statement}
 use Rattle.show.proofs.is_enough.Tie as tie
-use Rattle.show.proofs.is_enough.Reads as reads
-use Rattle.show.proofs.is_enough.Lts as lts
 
 returns : tie.Need-returns
 returns c = sym (lt-leb (roomFor (c .before .args .n)) (c .before .args .room) (omega arith))

@@ -1,8 +1,7 @@
+-- `show::is_plain` meets its contract. Assumes nothing.
 use borrow.Author.Tests.{eq-eqb, ne-eqb, le-leb, lt-leb}
 use Rattle.show.proofs.is_plain.Statement.{statement}
 use Rattle.show.proofs.is_plain.Tie as tie
-use Rattle.show.proofs.is_plain.Reads as reads
-use Rattle.show.proofs.is_plain.Lts as lts
 
 returns : tie.Need-returns
 returns c = simp (eq-eqb _ _ (c .if1 .taken))

@@ -1,25 +1,13 @@
+-- `show::line` meets its contract. Assumes nothing.
 use mathlib.Core.Path.{sym, _∙_}
 use borrow.Author.Tests.{leb-true}
 use Rattle.show.proofs.Room.{line-made, no-room}
 use borrow.Author.Needs.{needs}
 use Rattle.show.proofs.line.Statement.{statement}
 use Rattle.show.proofs.line.Tie as tie
-use Rattle.show.proofs.line.Reads as reads
-use Rattle.show.proofs.line.Lts as lts
-use Rattle.show.proofs.is_enough.Reads as is-enough-reads
-use Rattle.show.proofs.put_line.Reads as put-line-reads
-
-add-is-enough : tie.Need-add-is-enough
-add-is-enough c = search needs
-
-is-enough-requires : tie.Need-is-enough-requires
-is-enough-requires c κs = search needs
 
 put-line-requires : tie.Need-put-line-requires
 put-line-requires c κs = leb-true _ _ (sym (c .before .before .is-enough .ensures) ∙ c .before .if1 .taken)
-
-same-length : tie.Need-same-length
-same-length c = search needs
 
 returns : tie.Need-returns
 returns c = line-made (sym (c .before .before .before .before .before .is-enough .ensures) ∙ c .before .before .before .before .if1 .taken) (c .before .before .put-line .ensures)
@@ -30,4 +18,4 @@ returns-2 c = no-room _ _ _ (sym (c .before .is-enough .ensures) ∙ c .if1 .lef
 pub line-spec : {M : Type 1} → statement M
 line-spec =
     tie.close
-    (tie.spec add-is-enough is-enough-requires put-line-requires same-length returns returns-2)
+    (tie.spec (λ c. search needs) (λ c κs. search needs) put-line-requires (λ c. search needs) returns returns-2)

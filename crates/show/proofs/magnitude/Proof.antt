@@ -1,3 +1,4 @@
+-- `show::magnitude` meets its contract. Assumes nothing.
 use mathlib.Core.Path.{ap}
 use native.Mathlib.Omega.{arith}
 use lib.IntN.{natAbs}
@@ -6,8 +7,6 @@ use Rattle.frame.proofs.Signs.{neg-fits, neg-cast, neg-magnitude, pos-cast}
 use Rattle.show.proofs.Fixed.{magnitude-fits}
 use Rattle.show.proofs.magnitude.Statement.{statement}
 use Rattle.show.proofs.magnitude.Tie as tie
-use Rattle.show.proofs.magnitude.Reads as reads
-use Rattle.show.proofs.magnitude.Lts as lts
 
 sub-result : tie.Need-sub-result
 sub-result c = neg-fits _ (c .before .fits .z) (c .if1 .taken)

@@ -1,3 +1,4 @@
+-- `show::put_angles` meets its contract. Assumes nothing.
 use native.Mathlib.Omega.{arith}
 use mir.Facts.{toZ-ofZ}
 use Rattle.show.proofs.Lines.{angles-row}
@@ -5,37 +6,6 @@ use Rattle.place.proofs.Written.{then, wrote-as}
 use borrow.Author.Needs.{needs}
 use Rattle.show.proofs.put_angles.Statement.{statement}
 use Rattle.show.proofs.put_angles.Tie as tie
-use Rattle.show.proofs.put_angles.Reads as reads
-use Rattle.show.proofs.put_angles.Lts as lts
-use Rattle.show.proofs.put_fixed.Reads as put-fixed-reads
-use Rattle.show.proofs.put_word.Reads as put-word-reads
-
-slice-aggregate-put-word : tie.Need-slice-aggregate-put-word
-slice-aggregate-put-word c = search needs
-
-put-word-requires : tie.Need-put-word-requires
-put-word-requires c κs = search needs
-
-put-fixed-requires : tie.Need-put-fixed-requires
-put-fixed-requires c κs = search needs
-
-slice-aggregate-put-word-2 : tie.Need-slice-aggregate-put-word-2
-slice-aggregate-put-word-2 c = search needs
-
-put-word-requires-2 : tie.Need-put-word-requires-2
-put-word-requires-2 c κs = search needs
-
-put-fixed-requires-2 : tie.Need-put-fixed-requires-2
-put-fixed-requires-2 c κs = search needs
-
-slice-aggregate-put-word-3 : tie.Need-slice-aggregate-put-word-3
-slice-aggregate-put-word-3 c = search needs
-
-put-word-requires-3 : tie.Need-put-word-requires-3
-put-word-requires-3 c κs = search needs
-
-same-length : tie.Need-same-length
-same-length c = search needs
 
 returns : tie.Need-returns
 returns c =
@@ -51,13 +21,13 @@ pub put-angles-spec : {M : Type 1} → statement M
 put-angles-spec =
     tie.close
     (tie.spec
-    slice-aggregate-put-word
-    put-word-requires
-    put-fixed-requires
-    slice-aggregate-put-word-2
-    put-word-requires-2
-    put-fixed-requires-2
-    slice-aggregate-put-word-3
-    put-word-requires-3
-    same-length
+    (λ c. search needs)
+    (λ c κs. search needs)
+    (λ c κs. search needs)
+    (λ c. search needs)
+    (λ c κs. search needs)
+    (λ c κs. search needs)
+    (λ c. search needs)
+    (λ c κs. search needs)
+    (λ c. search needs)
     returns)

@@ -1,3 +1,4 @@
+-- `show::put_escaped` meets its contract. Assumes nothing.
 use Prim.Native.Nat.{_≤_, _+_, _-_, _*_}
 use mathlib.Core.Path.{_≡_, refl, ap}
 use native.Mathlib.Omega.{arith}
@@ -10,9 +11,6 @@ use Rattle.place.proofs.Written.{wrote-none, then, wrote-as}
 use Rattle.show.proofs.Escapes.{escaped-more}
 use Rattle.show.proofs.put_escaped.Statement.{statement}
 use Rattle.show.proofs.put_escaped.Tie as tie
-use Rattle.show.proofs.put_escaped.Reads as reads
-use Rattle.show.proofs.put_escaped.Lts as lts
-use Rattle.show.proofs.put_shown.Reads as put-shown-reads
 
 abbrev Inv-loop : tie.InvT-loop
 Inv-loop out₀ at s next₀ i₀ out next i = (i ≤ length s) × (at + 4 * length s ≤ length out₀) × (length out ≡ length out₀) × (next ≤ at + 4 * i) × Wrote out₀ at (escaped (take i s)) out next
@@ -24,17 +22,8 @@ loop-holds : tie.Need-loop-holds Inv-loop μ-loop
 unfolding escaped
 loop-holds c = (omega arith, omega arith, refl, omega arith, wrote-none _ _)
 
-shared-slice-read-put-shown : tie.Need-shared-slice-read-put-shown Inv-loop μ-loop
-shared-slice-read-put-shown c = search needs
-
 put-shown-requires : tie.Need-put-shown-requires Inv-loop μ-loop
 put-shown-requires c κs = omega arith
-
-add-i : tie.Need-add-i Inv-loop μ-loop
-add-i c = search needs
-
-loop-less : tie.Need-loop-less Inv-loop μ-loop
-loop-less c = search needs
 
 loop-again : tie.Need-loop-again Inv-loop μ-loop
 loop-again c =
@@ -48,9 +37,6 @@ loop-again c =
       wrote-as (escaped-more _ (before .loop .i) (omega arith)) (then (omega arith) (l .4) (put .ensures .0)),
     )
 
-same-length : tie.Need-same-length Inv-loop μ-loop
-same-length c = search needs
-
 returns : tie.Need-returns Inv-loop μ-loop
 returns c =
     let l = c .before .loop in
@@ -63,10 +49,10 @@ put-escaped-spec =
     Inv-loop
     μ-loop
     loop-holds
-    shared-slice-read-put-shown
+    (λ c. search needs)
     put-shown-requires
-    add-i
-    loop-less
+    (λ c. search needs)
+    (λ c. search needs)
     loop-again
-    same-length
+    (λ c. search needs)
     returns)

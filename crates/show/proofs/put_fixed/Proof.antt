@@ -1,3 +1,4 @@
+-- `show::put_fixed` meets its contract. Assumes nothing.
 use Prim.Native.Nat.{ℕ, _<_}
 use mathlib.Core.Path.{sym, ap, _∙_, subst}
 use native.Mathlib.Nat.{one-le-pow}
@@ -11,39 +12,11 @@ use Rattle.show.proofs.Fixed.{pieces}
 use borrow.Author.Needs.{needs}
 use Rattle.show.proofs.put_fixed.Statement.{statement}
 use Rattle.show.proofs.put_fixed.Tie as tie
-use Rattle.show.proofs.put_fixed.Reads as reads
-use Rattle.show.proofs.put_fixed.Lts as lts
-use Rattle.show.proofs.magnitude.Reads as magnitude-reads
-use Rattle.show.proofs.put.Reads as put-reads
-use Rattle.show.proofs.put_decimal.Reads as put-decimal-reads
-use Rattle.show.proofs.put_digits.Reads as put-digits-reads
-use Rattle.show.proofs.put_sign.Reads as put-sign-reads
-
-magnitude-requires : tie.Need-magnitude-requires
-magnitude-requires c κs = search needs
-
-cast-m : tie.Need-cast-m
-cast-m c = search needs
-
-put-sign-requires : tie.Need-put-sign-requires
-put-sign-requires c κs = search needs
 
 div-put-decimal : tie.Need-div-put-decimal
 div-put-decimal c =
     let start = c .before .before .before .before .before .before .before in
     subst (λ (n : ℕ). 0 < n) (sym (start .pre .1 .0)) (one-le-pow (start .args .places) 10 (lit≤ tt))
-
-put-decimal-requires : tie.Need-put-decimal-requires
-put-decimal-requires c κs = search needs
-
-put-requires : tie.Need-put-requires
-put-requires c κs = search needs
-
-put-digits-requires : tie.Need-put-digits-requires
-put-digits-requires c κs = search needs
-
-same-length : tie.Need-same-length
-same-length c = search needs
 
 returns : tie.Need-returns
 returns c =
@@ -62,12 +35,12 @@ pub put-fixed-spec : {M : Type 1} → statement M
 put-fixed-spec =
     tie.close
     (tie.spec
-    magnitude-requires
-    cast-m
-    put-sign-requires
+    (λ c κs. search needs)
+    (λ c. search needs)
+    (λ c κs. search needs)
     div-put-decimal
-    put-decimal-requires
-    put-requires
-    put-digits-requires
-    same-length
+    (λ c κs. search needs)
+    (λ c κs. search needs)
+    (λ c κs. search needs)
+    (λ c. search needs)
     returns)

@@ -1,3 +1,4 @@
+-- `show::put_head` meets its contract. Assumes nothing.
 use mathlib.Core.List.{append-assoc}
 use native.Mathlib.Omega.{arith}
 use Rattle.show.specs.Lines.{headOf}
@@ -5,28 +6,6 @@ use Rattle.place.proofs.Written.{then, wrote-as}
 use borrow.Author.Needs.{needs}
 use Rattle.show.proofs.put_head.Statement.{statement}
 use Rattle.show.proofs.put_head.Tie as tie
-use Rattle.show.proofs.put_head.Reads as reads
-use Rattle.show.proofs.put_head.Lts as lts
-use Rattle.show.proofs.put.Reads as put-reads
-use Rattle.show.proofs.put_decimal.Reads as put-decimal-reads
-
-put-decimal-requires : tie.Need-put-decimal-requires
-put-decimal-requires c κs = search needs
-
-put-requires : tie.Need-put-requires
-put-requires c κs = search needs
-
-put-decimal-requires-2 : tie.Need-put-decimal-requires-2
-put-decimal-requires-2 c κs = search needs
-
-put-requires-2 : tie.Need-put-requires-2
-put-requires-2 c κs = search needs
-
-put-decimal-requires-3 : tie.Need-put-decimal-requires-3
-put-decimal-requires-3 c κs = search needs
-
-same-length : tie.Need-same-length
-same-length c = search needs
 
 returns : tie.Need-returns
 unfolding headOf
@@ -43,10 +22,10 @@ pub put-head-spec : {M : Type 1} → statement M
 put-head-spec =
     tie.close
     (tie.spec
-    put-decimal-requires
-    put-requires
-    put-decimal-requires-2
-    put-requires-2
-    put-decimal-requires-3
-    same-length
+    (λ c κs. search needs)
+    (λ c κs. search needs)
+    (λ c κs. search needs)
+    (λ c κs. search needs)
+    (λ c κs. search needs)
+    (λ c. search needs)
     returns)

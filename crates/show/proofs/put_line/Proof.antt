@@ -1,3 +1,4 @@
+-- `show::put_line` meets its contract. Assumes nothing.
 use mathlib.Core.List.{append-assoc}
 use native.Mathlib.Omega.{arith}
 use Rattle.show.specs.Lines.{lineOf}
@@ -5,29 +6,6 @@ use Rattle.place.proofs.Written.{then, wrote-as}
 use borrow.Author.Needs.{needs}
 use Rattle.show.proofs.put_line.Statement.{statement}
 use Rattle.show.proofs.put_line.Tie as tie
-use Rattle.show.proofs.put_line.Reads as reads
-use Rattle.show.proofs.put_line.Lts as lts
-use Rattle.show.proofs.put.Reads as put-reads
-use Rattle.show.proofs.put_escaped.Reads as put-escaped-reads
-use Rattle.show.proofs.put_head.Reads as put-head-reads
-
-put-head-requires : tie.Need-put-head-requires
-put-head-requires c κs = search needs
-
-put-requires : tie.Need-put-requires
-put-requires c κs = search needs
-
-put-escaped-requires : tie.Need-put-escaped-requires
-put-escaped-requires c κs = search needs
-
-put-escaped-requires-2 : tie.Need-put-escaped-requires-2
-put-escaped-requires-2 c κs = search needs
-
-put-requires-2 : tie.Need-put-requires-2
-put-requires-2 c κs = search needs
-
-same-length : tie.Need-same-length
-same-length c = search needs
 
 returns : tie.Need-returns
 unfolding lineOf
@@ -44,10 +22,10 @@ pub put-line-spec : {M : Type 1} → statement M
 put-line-spec =
     tie.close
     (tie.spec
-    put-head-requires
-    put-requires
-    put-escaped-requires
-    put-escaped-requires-2
-    put-requires-2
-    same-length
+    (λ c κs. search needs)
+    (λ c κs. search needs)
+    (λ c κs. search needs)
+    (λ c κs. search needs)
+    (λ c κs. search needs)
+    (λ c. search needs)
     returns)

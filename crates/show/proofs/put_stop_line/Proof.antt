@@ -1,3 +1,4 @@
+-- `show::put_stop_line` meets its contract. Assumes nothing.
 use mathlib.Core.List.{append-assoc}
 use native.Mathlib.Omega.{arith}
 use Rattle.show.specs.Lines.{stopLineOf}
@@ -5,23 +6,6 @@ use Rattle.place.proofs.Written.{then, wrote-as}
 use borrow.Author.Needs.{needs}
 use Rattle.show.proofs.put_stop_line.Statement.{statement}
 use Rattle.show.proofs.put_stop_line.Tie as tie
-use Rattle.show.proofs.put_stop_line.Reads as reads
-use Rattle.show.proofs.put_stop_line.Lts as lts
-use Rattle.show.proofs.put.Reads as put-reads
-use Rattle.show.proofs.put_escaped.Reads as put-escaped-reads
-use Rattle.show.proofs.put_stop.Reads as put-stop-reads
-
-put-stop-requires : tie.Need-put-stop-requires
-put-stop-requires c κs = search needs
-
-put-escaped-requires : tie.Need-put-escaped-requires
-put-escaped-requires c κs = search needs
-
-put-requires : tie.Need-put-requires
-put-requires c κs = search needs
-
-same-length : tie.Need-same-length
-same-length c = search needs
 
 returns : tie.Need-returns
 unfolding stopLineOf
@@ -34,4 +18,4 @@ returns c =
 
 pub put-stop-line-spec : {M : Type 1} → statement M
 put-stop-line-spec =
-    tie.close (tie.spec put-stop-requires put-escaped-requires put-requires same-length returns)
+    tie.close (tie.spec (λ c κs. search needs) (λ c κs. search needs) (λ c κs. search needs) (λ c. search needs) returns)

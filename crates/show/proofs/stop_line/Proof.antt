@@ -1,22 +1,13 @@
+-- `show::stop_line` meets its contract. Assumes nothing.
 use mathlib.Core.Path.{sym, _∙_}
 use borrow.Author.Tests.{leb-true}
 use Rattle.show.proofs.Room.{line-made, no-room}
 use borrow.Author.Needs.{needs}
 use Rattle.show.proofs.stop_line.Statement.{statement}
 use Rattle.show.proofs.stop_line.Tie as tie
-use Rattle.show.proofs.stop_line.Reads as reads
-use Rattle.show.proofs.stop_line.Lts as lts
-use Rattle.show.proofs.is_enough.Reads as is-enough-reads
-use Rattle.show.proofs.put_stop_line.Reads as put-stop-line-reads
-
-is-enough-requires : tie.Need-is-enough-requires
-is-enough-requires c κs = search needs
 
 put-stop-line-requires : tie.Need-put-stop-line-requires
 put-stop-line-requires c κs = leb-true _ _ (sym (c .before .before .is-enough .ensures) ∙ c .before .if1 .taken)
-
-same-length : tie.Need-same-length
-same-length c = search needs
 
 returns : tie.Need-returns
 returns c = line-made (sym (c .before .before .before .before .before .is-enough .ensures) ∙ c .before .before .before .before .if1 .taken) (c .before .before .put-stop-line .ensures)
@@ -26,4 +17,4 @@ returns-2 c = no-room _ _ _ (sym (c .before .is-enough .ensures) ∙ c .if1 .lef
 
 pub stop-line-spec : {M : Type 1} → statement M
 stop-line-spec =
-    tie.close (tie.spec is-enough-requires put-stop-line-requires same-length returns returns-2)
+    tie.close (tie.spec (λ c κs. search needs) put-stop-line-requires (λ c. search needs) returns returns-2)

@@ -1,3 +1,4 @@
+-- `window::next_step` meets its contract. Assumes nothing.
 use mathlib.Core.Path.{sym, _∙_}
 use mathlib.Core.Bool.{cond}
 use Rattle.window.specs.declared.Step.the-variants.{More, End}
@@ -5,24 +6,12 @@ use Rattle.window.proofs.Steps.{nothing-held, some-held, stops-last, as
 use borrow.Author.Needs.{needs}
 use Rattle.window.proofs.next_step.Statement.{statement}
 use Rattle.window.proofs.next_step.Tie as tie
-use Rattle.window.proofs.next_step.Reads as reads
-use Rattle.window.proofs.next_step.Lts as lts
-use Rattle.frame.proofs.front_of.Reads as front-of-reads
 
 returns : tie.Need-returns
 returns c = (λ i. cond (sym (c .if2 .taken) i) (End 0) More) ∙ nothing-held _ _ (c .before .if1 .taken)
 
 returns-2 : tie.Need-returns-2
 returns-2 c = (λ i. cond (sym (c .if2 .left) i) (End 0) More) ∙ nothing-held _ _ (c .before .if1 .taken)
-
-front-of-requires : tie.Need-front-of-requires
-front-of-requires c κs = search needs
-
-enum-known-kind : tie.Need-enum-known-kind
-enum-known-kind c = search needs
-
-enum-known-reason : tie.Need-enum-known-reason
-enum-known-reason c = search needs
 
 returns-3 : tie.Need-returns-3
 returns-3 c =
@@ -50,9 +39,9 @@ next-step-spec =
     (tie.spec
     returns
     returns-2
-    front-of-requires
-    enum-known-kind
-    enum-known-reason
+    (λ c κs. search needs)
+    (λ c. search needs)
+    (λ c. search needs)
     returns-3
     returns-4
     returns-5

@@ -1,3 +1,4 @@
+-- `window::slide` meets its contract. Assumes nothing.
 use Rattle.window.proofs.Sliding.{moved, slid, past-the-end, backwards}
 use Prim.Native.Nat.{_+_, _-_, _≤_}
 use mathlib.Core.Path.{_≡_, refl, ap, _∙_}
@@ -7,8 +8,6 @@ use lib.ListN.{length, drop, length-set}
 use lib.Seq.{paste, paste-zero}
 use Rattle.window.proofs.slide.Statement.{statement}
 use Rattle.window.proofs.slide.Tie as tie
-use Rattle.window.proofs.slide.Reads as reads
-use Rattle.window.proofs.slide.Lts as lts
 
 abbrev Inv-loop : tie.InvT-loop
 Inv-loop window₀ from to held i₀ window i = (i ≤ held) × (from + held ≤ length window₀) × (length window ≡ length window₀) × (window ≡ paste window₀ 0 (drop from window₀) i)
@@ -19,29 +18,11 @@ abbrev μ-loop : tie.MeasureT-loop
 loop-holds : tie.Need-loop-holds Inv-loop μ-loop
 loop-holds c = (omega arith, omega arith, refl, paste-zero (c .before .before .args .window .now) 0 (drop (c .before .before .args .from) (c .before .before .args .window .now)))
 
-add-window : tie.Need-add-window Inv-loop μ-loop
-add-window c = search needs
-
-slice-read-window : tie.Need-slice-read-window Inv-loop μ-loop
-slice-read-window c = search needs
-
-slice-write-window : tie.Need-slice-write-window Inv-loop μ-loop
-slice-write-window c = search needs
-
-add-i : tie.Need-add-i Inv-loop μ-loop
-add-i c = search needs
-
-loop-less : tie.Need-loop-less Inv-loop μ-loop
-loop-less c = search needs
-
 loop-again : tie.Need-loop-again Inv-loop μ-loop
 loop-again c =
     let l = c .before .before .loop in
     let a = c .before .before .before .before .before .args in
     (omega arith, omega arith, simp length-set (omega arith), moved (a .window .now) (a .from) (l .i) (omega arith) (l .window) (l .inv .3))
-
-same-length : tie.Need-same-length Inv-loop μ-loop
-same-length c = search needs
 
 returns : tie.Need-returns Inv-loop μ-loop
 returns c =
@@ -63,13 +44,13 @@ slide-spec =
     Inv-loop
     μ-loop
     loop-holds
-    add-window
-    slice-read-window
-    slice-write-window
-    add-i
-    loop-less
+    (λ c. search needs)
+    (λ c. search needs)
+    (λ c. search needs)
+    (λ c. search needs)
+    (λ c. search needs)
     loop-again
-    same-length
+    (λ c. search needs)
     returns
     returns-2
     returns-3)

@@ -1,0 +1,2 @@
+-- What the contracts of the crate files cite.
+pub mod Files
