@@ -1,0 +1,4 @@
+-- What the contracts cite.
+pub mod Value
+pub mod Limbs64
+pub mod Limbs32
