@@ -16,8 +16,8 @@ use Rattle.field.proofs.Element.{value-element}
 use Rattle.polyval.specs.Machine.{run, polyval}
 use Rattle.polyval.specs.Blocks.{blocks}
 use Rattle.polyval.proofs.Run.{run-lt}
-use Rattle.ghash.specs.declared.record.Ghash.{Ghash}
-use Rattle.ghash.specs.declared.record.Started.{Started}
+use Rattle.ghash.specs.declared.parts.Ghash.{Ghash}
+use Rattle.ghash.specs.declared.parts.Started.{Started}
 use Rattle.ghash.specs.declared.Hashed.{Hashed}
 use Rattle.ghash.specs.Calls.{reversed, keyFor, startOf, fedOf, tagOf, hashedOf}
 use Rattle.ghash.proofs.Reversed.{reversed-lt}

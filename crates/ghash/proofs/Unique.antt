@@ -1,12 +1,12 @@
 -- For each public function, two answers that meet its contract, as the checker reads it, are equal. Assumes nothing.
 use mathlib.Core.Path.{sym, _∙_}
 use Rattle.gf2.proofs.Promise.{Unique}
-use Rattle.ghash.proofs.record.Ghash.start.Kinds as start-kinds
-use Rattle.ghash.proofs.record.Ghash.start.Reads as start-reads
-use Rattle.ghash.proofs.record.Ghash.feed_padded.Kinds as feed-padded-kinds
-use Rattle.ghash.proofs.record.Ghash.feed_padded.Reads as feed-padded-reads
-use Rattle.ghash.proofs.record.Ghash.finish.Kinds as finish-kinds
-use Rattle.ghash.proofs.record.Ghash.finish.Reads as finish-reads
+use Rattle.ghash.proofs.parts.Ghash.start.Kinds as start-kinds
+use Rattle.ghash.proofs.parts.Ghash.start.Reads as start-reads
+use Rattle.ghash.proofs.parts.Ghash.feed_padded.Kinds as feed-padded-kinds
+use Rattle.ghash.proofs.parts.Ghash.feed_padded.Reads as feed-padded-reads
+use Rattle.ghash.proofs.parts.Ghash.finish.Kinds as finish-kinds
+use Rattle.ghash.proofs.parts.Ghash.finish.Reads as finish-reads
 use Rattle.ghash.proofs.ghash.Kinds as ghash-kinds
 use Rattle.ghash.proofs.ghash.Reads as ghash-reads
 

@@ -12,8 +12,8 @@ use Rattle.field.specs.Element.{value, element}
 use Rattle.polyval.specs.Machine.{run, polyval}
 use Rattle.polyval.specs.Blocks.{blocks}
 use Rattle.ghash.specs.Gcm.{ghashOf, bits, bitBlocks}
-use Rattle.ghash.specs.declared.record.Ghash.{Ghash}
-use Rattle.ghash.specs.declared.record.Started.{Started}
+use Rattle.ghash.specs.declared.parts.Ghash.{Ghash}
+use Rattle.ghash.specs.declared.parts.Started.{Started}
 use Rattle.ghash.specs.declared.Hashed.{Hashed}
 
 -- sixteen bytes in the opposite order

@@ -1,7 +1,7 @@
 // GHASH (NIST SP 800-38D) by way of POLYVAL (RFC 8452, appendix A).
-pub mod record;
+pub mod parts;
 
-use record::Ghash;
+use parts::Ghash;
 ghost use mathlib.Core.Path.{_≡_};
 ghost use Rattle.ghash.specs.Calls.{hashedOf};
 

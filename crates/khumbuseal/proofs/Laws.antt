@@ -13,7 +13,7 @@ use Rattle.hash.specs.declared.Hash.{Hash}
 use Rattle.hash.specs.declared.Fed.{Fed}
 use Rattle.hash.specs.Calls.{recordAnswer, resetOf}
 use Rattle.join.specs.declared.Joined.{Joined}
-use Rattle.ghash.specs.declared.record.Started.{Started}
+use Rattle.ghash.specs.declared.parts.Started.{Started}
 use Rattle.message.specs.Message.{Values}
 use Rattle.place.specs.Put.{Puts}
 use Rattle.place.proofs.Written.{then, put-wrote}

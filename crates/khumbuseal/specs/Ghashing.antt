@@ -2,8 +2,8 @@
 use Prim.Native.Nat.{ℕ}
 use mathlib.Core.Path.{_≡_}
 use mathlib.Core.List.{List, _++_}
-use Rattle.ghash.specs.declared.record.Ghash.{Ghash}
-use Rattle.ghash.specs.declared.record.Started.{Started}
+use Rattle.ghash.specs.declared.parts.Ghash.{Ghash}
+use Rattle.ghash.specs.declared.parts.Started.{Started}
 use Rattle.record.specs.Bytes.{elementBytes, elementAt}
 use Rattle.khumbuseal.specs.Hashing.{stored}
 

@@ -1,6 +1,6 @@
 // GHASH for C: its record as 32 bytes, POLYVAL's key for GHASH's and the sum. Any bytes are one. Assumes
 // nothing.
-use ghash::record::Ghash;
+use ghash::parts::Ghash;
 use polyval::block;
 ghost use mathlib.Core.Path.{_≡_};
 ghost use mathlib.Core.List.{_++_};

@@ -2,9 +2,12 @@
 // in pieces, keeps one line of at most 300,000 characters, and writes its answers many at a time.
 mod answers;
 mod arithmetic;
+mod frames;
+mod hashing;
 mod print;
 mod reading;
 mod requests;
+mod sealing;
 mod words;
 
 ghost use mathlib.Core.Path.{_≡_};

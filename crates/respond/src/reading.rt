@@ -15,7 +15,7 @@ struct Reading {
 fn keep(s: &[u8], line: &mut [u8], have: usize) -> usize {
     if have <= line.len() {
         if s.len() <= line.len() - have {
-            bytes::copy(s, &mut line[have..]);
+            aead::bytes::copy(s, &mut line[have..]);
             return have + s.len();
         }
     }
@@ -46,7 +46,7 @@ fn go_on(
 ) -> Reading {
     let have = keep(s, line, r.have);
     if ends {
-        let at = answers::answer(words::part(line, 0, have), arena, out, r.at);
+        let at = answers::answer(line, have, arena, out, r.at);
         return Reading {
             have: 0,
             at: print::line_end(out, at),
@@ -60,7 +60,7 @@ fn take(piece: &[u8], line: &mut [u8], arena: &mut [u8], out: &mut [u8], r0: Rea
     let mut r = r0;
     let mut from = 0;
     while from < piece.len() {
-        let end = bytes::scan::find(piece, from, piece.len(), b'\n');
+        let end = words::find(piece, from, piece.len(), b'\n');
         r = go_on(&piece[from..end], end < piece.len(), line, arena, out, r);
         from = end + 1;
     }

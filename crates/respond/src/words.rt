@@ -1,16 +1,22 @@
 // The words of a line, read by the letters of a request. Each word fills a slot: where its bytes begin and end in
 // the arena, and its number. A word that is not what its letter asks for is noted, and reading goes on.
 //
-// The letters: e an element, 16 bytes; k a stored key; b bytes; x and y words of 16 and of 8 hex digits; n a number;
-// t a route. A capital asks for the same before a colon, as a part of a record.
+// The letters: e an element, 16 bytes; k a stored key; c a cipher's key; b bytes; x and y words of 16 and of 8 hex
+// digits; n a number, r one that is a room and i one that is a frame's kind; t a route. A capital asks for the same
+// before a colon, as a part of a record.
 use field::FieldElement;
 use lines::Number;
+ghost use Prim.Native.Nat.{_≤_};
+ghost use lib.ListN.{length};
 
 // Room for the slots of the longest request, three numbers each.
 pub(crate) const SLOTS: usize = 27;
 
 // The bytes of a stored key: each power of H and its D value.
-const KEY: usize = 32 * polyval::key::POWERS;
+pub(crate) const KEY: usize = 32 * polyval::key::POWERS;
+
+// The largest output buffer that a request can ask for.
+const ROOM: u64 = 70000;
 
 // Stands for a length that is free.
 const ANY: usize = usize::MAX;
@@ -40,15 +46,31 @@ pub(crate) fn part(s: &[u8], a: usize, e: usize) -> &[u8] {
     &s[..0]
 }
 
+// Where b first stands in s, from `from` on and before `to`: or `to`.
+pub(crate) fn find(s: &[u8], from: usize, to: usize, b: u8) -> usize
+    requires { ⌜ from ≤ to ⌝ }
+    requires { ⌜ to ≤ length (now s) ⌝ }
+    ensures { λ r. ⌜ (from ≤ r) × (r ≤ to) ⌝ }
+{
+    let mut i = from;
+    while i < to {
+        if s[i] == b {
+            return i;
+        }
+        i += 1;
+    }
+    to
+}
+
 // Where the line's first word ends.
 pub(crate) fn first_end(line: &[u8]) -> usize {
-    bytes::scan::find(line, 0, line.len(), b' ')
+    find(line, 0, line.len(), b' ')
 }
 
 // Where the word behind the separator at `at` ends: before the next `stop`, or with the line.
 fn word_end(line: &[u8], at: usize, stop: u8) -> usize {
     if at < line.len() {
-        bytes::scan::find(line, at + 1, line.len(), stop)
+        find(line, at + 1, line.len(), stop)
     } else {
         at
     }
@@ -79,6 +101,11 @@ fn size_of(letter: u8) -> usize {
         b'y' => 4,
         _ => ANY,
     }
+}
+
+// A cipher's key has 32 bytes, or else 16.
+fn cipher_size(text: &[u8]) -> usize {
+    if text.len() == 64 { 32 } else { 16 }
 }
 
 // Whether a word says as many bytes as it should: hex, or `-` for none.
@@ -127,6 +154,28 @@ fn number_slot(said: Number, fill: usize) -> Slot {
     }
 }
 
+// The largest number that a letter takes.
+fn largest_of(letter: u8) -> u64 {
+    match letter {
+        b'r' => ROOM,
+        b'i' => 255,
+        _ => u64::MAX,
+    }
+}
+
+fn at_most(largest: u64, said: Number) -> Number {
+    match said {
+        Number::Is(n) => {
+            if n <= largest {
+                Number::Is(n)
+            } else {
+                Number::No
+            }
+        }
+        Number::No => Number::No,
+    }
+}
+
 // The routes by number: wide, narrow, rf.
 fn route_of(text: &[u8]) -> Number {
     if check::same(text, b"wide") {
@@ -143,8 +192,11 @@ fn route_of(text: &[u8]) -> Number {
 
 fn slot_of(letter: u8, text: &[u8], arena: &mut [u8], fill: usize) -> Slot {
     match letter {
-        b'n' => number_slot(lines::decimal(text), fill),
+        b'n' | b'r' | b'i' => {
+            number_slot(at_most(largest_of(letter), lines::decimal(text)), fill)
+        }
         b't' => number_slot(route_of(text), fill),
+        b'c' => bytes_slot(text, cipher_size(text), arena, fill),
         _ => bytes_slot(text, size_of(letter), arena, fill),
     }
 }
@@ -206,16 +258,23 @@ fn slot_index(slots: &[u64], i: usize) -> usize {
     slot_number(slots, i) as usize
 }
 
-// The bytes of slot i.
-pub(crate) fn bytes<'a>(arena: &'a [u8], slots: &[u64], i: usize) -> &'a [u8] {
+// The bytes from slot i to slot j: those of words that follow each other follow each other too.
+pub(crate) fn span<'a>(arena: &'a [u8], slots: &[u64], i: usize, j: usize) -> &'a [u8] {
     if i < SLOTS {
-        return part(
-            arena,
-            slot_index(slots, 3 * i),
-            slot_index(slots, 3 * i + 1),
-        );
+        if j < SLOTS {
+            return part(
+                arena,
+                slot_index(slots, 3 * i),
+                slot_index(slots, 3 * j + 1),
+            );
+        }
     }
     &arena[..0]
+}
+
+// The bytes of slot i.
+pub(crate) fn bytes<'a>(arena: &'a [u8], slots: &[u64], i: usize) -> &'a [u8] {
+    span(arena, slots, i, i)
 }
 
 // The number of slot i.
@@ -226,12 +285,10 @@ pub(crate) fn number(slots: &[u64], i: usize) -> u64 {
     0
 }
 
-// The 16 bytes of s, zeros where there are fewer.
+// The first 16 bytes of s, zeros where there are fewer.
 pub(crate) fn block(s: &[u8]) -> [u8; 16] {
     let mut b = [0u8; 16];
-    if s.len() <= 16 {
-        bytes::copy(s, &mut b);
-    }
+    aead::bytes::copy(s, &mut b);
     b
 }
 

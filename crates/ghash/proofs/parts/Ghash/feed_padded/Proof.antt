@@ -1,4 +1,4 @@
--- `ghash::record::Ghash::feed_padded` meets its contract. Assumes nothing.
+-- `ghash::parts::Ghash::feed_padded` meets its contract. Assumes nothing.
 use Prim.Native.Nat.{ℕ, _+_, _-_, _≤_}
 use mathlib.Core.Path.{_≡_, refl, sym, ap, _∙_}
 use mathlib.Core.List.{map}
@@ -14,8 +14,8 @@ use Rattle.polyval.proofs.Run.{step-lt}
 use Rattle.ghash.specs.Calls.{reversed}
 use Rattle.ghash.proofs.Reversed.{reversed-lt}
 use Rattle.ghash.proofs.Fed.{fed-turn, fed-none}
-use Rattle.ghash.proofs.record.Ghash.feed_padded.Statement.{statement}
-use Rattle.ghash.proofs.record.Ghash.feed_padded.Tie as tie
+use Rattle.ghash.proofs.parts.Ghash.feed_padded.Statement.{statement}
+use Rattle.ghash.proofs.parts.Ghash.feed_padded.Tie as tie
 
 abbrev Inv-loop : tie.InvT-loop
 Inv-loop s key acc₀ i₀ acc i =

@@ -1,4 +1,4 @@
--- `ghash::record::Ghash::start` meets its contract. Assumes nothing.
+-- `ghash::parts::Ghash::start` meets its contract. Assumes nothing.
 use mathlib.Core.Path.{_≡_, sym, ap, _∙_}
 use mathlib.Core.Bool.{Bool, cond, not}
 use mathlib.Core.List.{List}
@@ -13,12 +13,12 @@ use Rattle.gf2.specs.Polyval.{mulx}
 use Rattle.gf2.specs.Bytes.{number}
 use Rattle.field.specs.Element.{value, element}
 use Rattle.field.proofs.Element.{value-of}
-use Rattle.ghash.specs.declared.record.Started.{Started}
+use Rattle.ghash.specs.declared.parts.Started.{Started}
 use Rattle.ghash.specs.Calls.{reversed, keyFor}
 use Rattle.ghash.proofs.Reversed.{reversed-lt}
 use borrow.Author.Needs.{needs}
-use Rattle.ghash.proofs.record.Ghash.start.Statement.{statement}
-use Rattle.ghash.proofs.record.Ghash.start.Tie as tie
+use Rattle.ghash.proofs.parts.Ghash.start.Statement.{statement}
+use Rattle.ghash.proofs.parts.Ghash.start.Tie as tie
 
 -- by the outcome of the test
 abbrev byTest : List ℕ → Bool → Started

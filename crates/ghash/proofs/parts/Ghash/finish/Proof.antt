@@ -1,4 +1,4 @@
--- `ghash::record::Ghash::finish` meets its contract. Assumes nothing.
+-- `ghash::parts::Ghash::finish` meets its contract. Assumes nothing.
 use mathlib.Core.Path.{ap, _∙_}
 use Rattle.gf2.specs.Bytes.{bytesOf}
 use Rattle.field.specs.Element.{value}
@@ -6,8 +6,8 @@ use Rattle.field.proofs.Element.{value-of}
 use Rattle.ghash.specs.Calls.{reversed}
 use Rattle.ghash.proofs.Reversed.{reversed-lt, bytesOf-reversed}
 use borrow.Author.Needs.{needs}
-use Rattle.ghash.proofs.record.Ghash.finish.Statement.{statement}
-use Rattle.ghash.proofs.record.Ghash.finish.Tie as tie
+use Rattle.ghash.proofs.parts.Ghash.finish.Statement.{statement}
+use Rattle.ghash.proofs.parts.Ghash.finish.Tie as tie
 
 reverse-requires : tie.Need-reverse-requires
 reverse-requires c κs = search needs
