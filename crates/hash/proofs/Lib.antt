@@ -5,5 +5,6 @@ pub mod OneHash
 pub mod Start
 pub mod Pieces
 pub mod Spent
+pub mod Stale
 pub mod Cases
 pub mod Unique

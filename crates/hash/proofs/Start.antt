@@ -1,6 +1,6 @@
 -- From start to finish: what is fed under a key of 16 bytes hashes to POLYVAL of the blocks it spells, on every route. Assumes nothing.
 use mathlib.Core.Path.{_≡_, refl, sym, ap, _∙_, subst}
-use mathlib.Core.Bool.{cond, not}
+use mathlib.Core.Bool.{true, cond, not}
 use mathlib.Core.List.{List, [], _∷_}
 use Prim.Native.Nat.{ℕ, zero-le, _^_, _<_}
 use lib.ListN.{length}
@@ -14,7 +14,7 @@ use Rattle.polyval.specs.declared.route.Route.{Route}
 use Rattle.polyval.specs.declared.route.Route.the-variants.{Wide, Narrow, Rf}
 use Rattle.polyval.specs.Machine.{run, polyval}
 use Rattle.polyval.specs.Blocks.{blocks}
-use Rattle.polyval.specs.Key.{keyOf, expansionCost}
+use Rattle.polyval.specs.Key.{keyOf, checkOf, expansionCost}
 use Rattle.polyval.proofs.Check.{made-checks, value-hOf}
 use Rattle.polyval.proofs.Agree.{Checked}
 use Rattle.hash.specs.declared.Hash.{Hash}
@@ -35,6 +35,10 @@ module _ (key : List ℕ) (long : length key ≡ 16) (bytes : Bytes key) where
   -- start accepts the key, a zero one too
   pub started : startOf key ≡ holding (keyOf (number key)) (counted 0 expansionCost) []
   started = ap (λ t. fedOr (cond (not t) keyLength done) (holding (keyOf (number key)) (counted 0 expansionCost) [])) (eq-eqb (length key) 16 long)
+
+  -- "every expanded key we make passes it"
+  pub start-checks : checkOf (startOf key .hash .key) ≡ true
+  start-checks = ap (λ r. checkOf (r .hash .key)) started ∙ made-checks (number key) h-lt
 
   abbrev begun : Hash
   begun = holding (keyOf (number key)) (counted 0 expansionCost) [] .hash

@@ -4,11 +4,12 @@ use mathlib.Core.Bool.{true, cond, not, _&&_}
 use mathlib.Core.List.{List, [], _∷_, _++_}
 use Prim.Native.Nat.{ℕ, _/_, _%_, _^_, _<_}
 use native.Mathlib.Omega.{arith}
-use lib.Dec.{lit<, lit≤}
+use lib.Dec.{ltb, lit<, lit≤}
 use lib.ListN.{length, replicate, length-append}
 use lib.Pow.{pow-pos}
 use borrow.Author.Tests.{eq-eqb}
 use Rattle.answer.specs.Answers.{done, badRecord, notWholeBlocks}
+use Rattle.answer.specs.First.{first, _⇒_}
 use Rattle.gf2.specs.Carryless.{_⊕_}
 use Rattle.gf2.specs.Polyval.{dot}
 use Rattle.gf2.specs.Bytes.{number}
@@ -18,7 +19,7 @@ use Rattle.gf2.proofs.Bytes.{Bytes, bytes-++, number-lt}
 use Rattle.field.specs.declared.field_element.FieldElement.{FieldElement}
 use Rattle.field.specs.Element.{value, element}
 use Rattle.field.specs.Rf.{counted}
-use Rattle.field.proofs.Element.{value-element, element-sized}
+use Rattle.field.proofs.Element.{value-element, value-of, element-sized}
 use Rattle.polyval.specs.declared.route.Route.{Route}
 use Rattle.polyval.specs.declared.route.Route.the-variants.{Wide, Narrow, Rf}
 use Rattle.polyval.specs.Machine.{step, run}
@@ -50,6 +51,27 @@ join-law h s t whole =
     let a : ℕ = run h 0 (blocks s) in
     sym (run-⊕ h a 0 (blocks t)) ∙ ap (λ n. run h n (blocks t)) (⊕-zero a) ∙ sym (run-++ h 0 (blocks s) (blocks t)) ∙ ap (run h 0) (sym (blocks-++ s t whole))
 
+-- like keys are alike
+alike : (e : FieldElement) → sameElement e e ≡ true
+alike e = ap₂ _&&_ (eq-eqb (e .lo) (e .lo) refl) (eq-eqb (e .hi) (e .hi) refl)
+
+-- the same of any two records with nothing pending, however their parts were fed and whatever else their keys store
+pub join-hashes : (a b : Hash) (s t : List ℕ) → a .count ≡ 0 → b .count ≡ 0 → hOf (a .key) ≡ hOf (b .key) → length s % 16 ≡ 0
+    → a .acc ≡ element (run (value (hOf (a .key))) 0 (blocks s)) → b .acc ≡ element (run (value (hOf (a .key))) 0 (blocks t))
+    → (joinOf a b (length (blocks t)) .answer ≡ done) × (joinOf a b (length (blocks t)) .hash .acc ≡ element (run (value (hOf (a .key))) 0 (blocks (s ++ t))))
+join-hashes a b s t na nb keys whole ea eb =
+    let h : ℕ = value (hOf (a .key)) in
+    let n : ℕ = length (blocks t) in
+    let same : sameElement (hOf (a .key)) (hOf (b .key)) ≡ true = ap (sameElement (hOf (a .key))) (sym keys) ∙ alike (hOf (a .key)) in
+    let made : joinOf a b n ≡ joined a b n =
+    λ i. joinedOr (first (ltb 0 (na i) ⇒ badRecord ∷ ltb 0 (nb i) ⇒ badRecord ∷ not (same i) ⇒ badRecord ∷ [])) (joined a b n) in
+    let size : (u : List ℕ) → run h 0 (blocks u) < 2 ^ 128 = λ u. run-lt h 0 (blocks u) (pow-pos 128) in (
+      ap (λ r. r .answer) made,
+      ap (λ r. r .hash .acc) made
+          ∙ ap₂ (λ x y. element (times h n x ⊕ y)) (value-of (run h 0 (blocks s)) (size s) ea) (value-of (run h 0 (blocks t)) (size t) eb)
+          ∙ ap element (join-law h s t whole),
+    )
+
 module _ (key : List ℕ) (long : length key ≡ 16) (bytes : Bytes key) where
   abbrev H : ℕ
   H = number key
@@ -74,10 +96,6 @@ module _ (key : List ℕ) (long : length key ≡ 16) (bytes : Bytes key) where
       ap (λ r. wholeOf route (r .hash) s .hash) (started key long bytes)
       ∙ ap (λ t. fedOr (cond (not t) notWholeBlocks done) (absorbed route begun s) .hash) (eq-eqb (length s % 16) 0 whole)
       ∙ (λ i. record { key = keyOf H; acc = acc i; pending = replicate 16 0; count = 0 })
-
-  -- like keys are alike
-  alike : (e : FieldElement) → sameElement e e ≡ true
-  alike e = ap₂ _&&_ (eq-eqb (e .lo) (e .lo) refl) (eq-eqb (e .hi) (e .hi) refl)
 
   pub joined-made : (s t : List ℕ) → joinOf (made s) (made t) (length t / 16) ≡ joined (made s) (made t) (length t / 16)
   joined-made s t = ap (λ b. joinedOr (cond (not b) badRecord done) (joined (made s) (made t) (length t / 16))) (alike (hOf (keyOf H)))
