@@ -48,17 +48,6 @@ pub row3 : (x : ℕ) → x / 2 ^ 24 % 256 ≡ row 3 x
 unfolding bytesOf
 row3 x = ap (λ (n : ℕ). n % 256) (sym (ap (λ (n : ℕ). n / 256) (shr-shr x 8 8) ∙ shr-shr x 16 8))
 
-pub rows : (x : ℕ) → x % 256 ∷ x / 2 ^ 8 % 256 ∷ x / 2 ^ 16 % 256 ∷ x / 2 ^ 24 % 256 ∷ [] ≡ bytesOf 4 x
-unfolding bytesOf
-rows x = λ i. x % 256 ∷ row1 x i ∷ row2 x i ∷ row3 x i ∷ []
-
--- four bytes summed in their places
-pub bytes-sum : (a b c d : ℕ) → a < 256 → b < 256 → c < 256 → d < 256 → bytesOf 4 (a + b * 256 + c * 65536 + d * 16777216) ≡ a ∷ b ∷ c ∷ d ∷ []
-unfolding number
-bytes-sum a b c d ha hb hc hd =
-    let e : a + b * 256 + c * 65536 + d * 16777216 ≡ number (a ∷ b ∷ c ∷ d ∷ []) = omega arith in
-    ap (bytesOf 4) e ∙ bytesOf-number (a ∷ b ∷ c ∷ d ∷ []) (ha, (hb, (hc, (hd, tt))))
-
 -- a number of j + k bits turned left by k
 abbrev pub turned : (j k x : ℕ) → ℕ
 turned j k x = bitOr (x * 2 ^ k % 2 ^ (j + k)) (x / 2 ^ j)

@@ -2,6 +2,8 @@
 // share of a column is row 0's, turned by as many bytes.
 use crate::Schedule128;
 use crate::Schedule256;
+use little_endian::le32;
+use little_endian::le32_bytes;
 ghost use mathlib.Core.Path.{_≡_};
 ghost use mathlib.Core.List.{[], _∷_};
 ghost use Prim.Native.Nat.{_+_, _*_, _%_, _≤_};
@@ -19,13 +21,6 @@ struct State {
     b: u32,
     c: u32,
     d: u32,
-}
-
-// Four bytes as a word, the lowest first.
-fn le32(a: u8, b: u8, c: u8, d: u8) -> u32
-    ensures { λ r. ⌜ bytesOf 4 r ≡ a ∷ b ∷ c ∷ d ∷ [] ⌝ }
-{
-    (a as u32) + (b as u32) * 0x100 + (c as u32) * 0x1_0000 + (d as u32) * 0x100_0000
 }
 
 // The word of four bytes of s from i on.
@@ -130,26 +125,14 @@ fn last_columns(s: State, words: &[u32; 256]) -> State
     }
 }
 
-// The rows of a column.
-fn column_bytes(x: u32) -> [u8; 4]
-    ensures { λ r. ⌜ r ≡ bytesOf 4 x ⌝ }
-{
-    [
-        (x % 256) as u8,
-        (x / 0x100 % 256) as u8,
-        (x / 0x1_0000 % 256) as u8,
-        (x / 0x100_0000 % 256) as u8,
-    ]
-}
-
 // The state as a block again.
 fn to_block(s: State) -> [u8; 16]
     ensures { λ r. ⌜ r ≡ stateOf s ⌝ }
 {
-    let a = column_bytes(s.a);
-    let b = column_bytes(s.b);
-    let c = column_bytes(s.c);
-    let d = column_bytes(s.d);
+    let a = le32_bytes(s.a);
+    let b = le32_bytes(s.b);
+    let c = le32_bytes(s.c);
+    let d = le32_bytes(s.d);
     [
         a[0],
         a[1],

@@ -1,7 +1,6 @@
 -- The two's complement of 32 bits, as the code computes it. Assumes nothing.
-use Prim.Native.Nat.{ℕ, zero, suc, _+_, _-_, _/_, _%_, _≤_, _<_, _^_}
-use mathlib.Core.List.{[], _∷_}
-use mathlib.Core.Path.{_≡_, refl, sym, ap, ap₂, _∙_, subst}
+use Prim.Native.Nat.{ℕ, zero, suc, _+_, _-_, _≤_, _<_, _^_}
+use mathlib.Core.Path.{_≡_, refl, sym, ap, _∙_, subst}
 use mathlib.Core.Bool.{Bool, true, false, cond}
 use native.Mathlib.Nat.{zero-add}
 use native.Mathlib.Numerals.{add-one}
@@ -13,7 +12,6 @@ use lib.Dec.{T, ltb}
 use mir.Syntax.{w32}
 use mir.Val.{toZ, ofZ, SFits, Fits}
 use mir.Facts.{toZ-pos, toZ-ofZ}
-use Rattle.gf2.specs.Bytes.{bytesOf}
 use Rattle.frame.specs.Signed.{signed, bitsOf}
 use Rattle.frame.specs.Position.{within}
 
@@ -98,14 +96,6 @@ signed-bits (negsuc k) f =
     let h = f .sfits in
     let e : 2 ^ 32 - 1 - (2 ^ 32 - 1 - k) ≡ k = omega arith in
     simp (le-ltb (2 ^ 32 - 1 - k) (2 ^ 31) (omega arith)) (ap negsuc e)
-
--- four bytes of a word, as the code takes them
-pub four-bytes : (x : ℕ) → x < 2 ^ 32 → x % 256 ∷ x / 256 % 256 ∷ x / 65536 % 256 ∷ x / 16777216 ∷ [] ≡ bytesOf 4 x
-unfolding bytesOf
-four-bytes x h =
-    let two : x / 65536 % 256 ≡ x / 256 / 256 % 256 = omega arith in
-    let three : x / 16777216 ≡ x / 256 / 256 / 256 % 256 = omega arith in
-    ap₂ (λ a b. x % 256 ∷ x / 256 % 256 ∷ a ∷ b ∷ []) two three
 
 pub bits-signed : (n : ℕ) → n < 2 ^ 32 → bitsOf (signed n) ≡ n
 bits-signed n h = by-half (ltb n (2 ^ 31)) refl

@@ -1,8 +1,10 @@
 // A position: its four fields, its sixteen bytes, and the ranges of its fields. Nobody above this file
 // encodes a signed field. Assumes nothing.
+use little_endian::le32;
+use little_endian::le32_bytes;
 ghost use mathlib.Core.Path.{_≡_};
 ghost use mathlib.Core.List.{[], _∷_};
-ghost use Rattle.gf2.specs.Bytes.{number, bytesOf};
+ghost use Rattle.gf2.specs.Bytes.{number};
 ghost use Rattle.frame.specs.Signed.{signed, bitsOf};
 ghost use Rattle.frame.specs.Position.{within, inRange, positionOf, positionBytes};
 
@@ -26,25 +28,6 @@ pub struct Position {
     pub lon: i32,
     pub alt: i32,
     pub time: u32,
-}
-
-// Four bytes as a word, the lowest first.
-fn le32(a: u8, b: u8, c: u8, d: u8) -> u32
-    ensures { λ r. ⌜ r ≡ number (a ∷ b ∷ c ∷ d ∷ []) ⌝ }
-{
-    a as u32 + b as u32 * 0x100 + c as u32 * 0x1_0000 + d as u32 * 0x100_0000
-}
-
-// The word's four bytes, the lowest first.
-fn le32_bytes(x: u32) -> [u8; 4]
-    ensures { λ r. ⌜ r ≡ bytesOf 4 x ⌝ }
-{
-    [
-        (x % 0x100) as u8,
-        (x / 0x100 % 0x100) as u8,
-        (x / 0x1_0000 % 0x100) as u8,
-        (x / 0x100_0000) as u8,
-    ]
 }
 
 // The 32 bits of x as a signed number: two's complement.

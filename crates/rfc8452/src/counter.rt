@@ -1,19 +1,11 @@
 // The counter blocks and the key stream (RFC 8452 section 4, AES_CTR).
 use aead::bytes;
 use aead::cipher::Cipher;
+use little_endian::le32;
 ghost use mathlib.Core.Path.{_≡_};
-ghost use mathlib.Core.List.{[], _∷_};
-ghost use Rattle.gf2.specs.Bytes.{number};
 ghost use Rattle.aead.specs.Stream.{masked};
 ghost use Rattle.aead.specs.Cipher.{encrypted};
 ghost use Rattle.rfc8452.specs.Counter.{counterBlock, nextCounter};
-
-// Four bytes as a word, the lowest first.
-fn le32(a: u8, b: u8, c: u8, d: u8) -> u32
-    ensures { λ r. ⌜ r ≡ number (a ∷ b ∷ c ∷ d ∷ []) ⌝ }
-{
-    a as u32 + b as u32 * 0x100 + c as u32 * 0x1_0000 + d as u32 * 0x100_0000
-}
 
 // The first counter block: the tag with the top bit of its last byte set.
 pub fn counter_block(tag: [u8; 16]) -> [u8; 16]

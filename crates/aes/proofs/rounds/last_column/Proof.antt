@@ -14,7 +14,7 @@ returns c =
     let second = third .before in
     let first = second .before in
     let a = first .before .args in
-    c .le32 .ensures
+    c .le32 .ensures .back
     ∙ (λ i. (first .sub .ensures ∙ ap sbox (row0 (a .a))) i ∷ (second .sub2 .ensures ∙ ap sbox (row1 (a .b))) i
     ∷ (third .sub3 .ensures ∙ ap sbox (row2 (a .c))) i ∷ (fourth .sub4 .ensures ∙ ap sbox (row3 (a .d))) i ∷ [])
 

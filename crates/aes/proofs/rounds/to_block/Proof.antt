@@ -7,7 +7,7 @@ use Rattle.aes.proofs.rounds.to_block.Tie as tie
 
 returns : tie.Need-returns
 unfolding bytesOf
-returns c = λ i. sixteen (c .before .before .before .column-bytes .ensures i) (c .before .before .column-bytes2 .ensures i) (c .before .column-bytes3 .ensures i) (c .column-bytes4 .ensures i)
+returns c = λ i. sixteen (c .before .before .before .le32-bytes .ensures i) (c .before .before .le32-bytes2 .ensures i) (c .before .le32-bytes3 .ensures i) (c .le32-bytes4 .ensures i)
 
 pub to-block-spec : {M : Type 1} → statement M
 to-block-spec =

@@ -12,7 +12,7 @@ returns : tie.Need-returns
 returns c =
     let a = c .before .before .before .before .before .before .args in
     let s = a .s .now in
-    c .le32 .ensures ∙ (λ k. getD s (sym (add-zero (a .i)) k) 0 ∷ getD s (a .i + 1) 0 ∷ getD s (a .i + 2) 0 ∷ getD s (a .i + 3) 0 ∷ [])
+    c .le32 .ensures .back ∙ (λ k. getD s (sym (add-zero (a .i)) k) 0 ∷ getD s (a .i + 1) 0 ∷ getD s (a .i + 2) 0 ∷ getD s (a .i + 3) 0 ∷ [])
 
 pub word-at-spec : {M : Type 1} → statement M
 word-at-spec =

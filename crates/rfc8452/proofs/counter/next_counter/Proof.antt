@@ -7,13 +7,12 @@ use Rattle.rfc8452.proofs.counter.next_counter.Statement.{statement}
 use Rattle.rfc8452.proofs.counter.next_counter.Tie as tie
 use Rattle.rfc8452.proofs.counter.next_counter.Reads as reads
 use Rattle.rfc8452.proofs.counter.next_counter.Lts as lts
-use Rattle.rfc8452.proofs.counter.le32.Reads as le32-reads
 use Rattle.std.proofs.num.wrapping_add_u32.Reads as wrapping-add-u32-reads
 
 returns : tie.Need-returns
 returns c =
     let b = c .before .before .args .t1 in
-    counted b (c .wrapping-add-u32 .result) (search needs) (c .wrapping-add-u32 .ensures ∙ ap (λ n. (n + 1) % 2 ^ 32) (c .before .le32 .ensures))
+    counted b (c .wrapping-add-u32 .result) (search needs) (c .wrapping-add-u32 .ensures ∙ ap (λ n. (n + 1) % 2 ^ 32) (c .before .le32 .ensures .value))
 
 pub next-counter-spec : {M : Type 1} → statement M
 next-counter-spec =

@@ -21,7 +21,7 @@ returns c =
       lat = (toZ-ofZ {w = w32} {z = c .before .before .before .field .result} (search needs) ∙ c .before .before .before .field .ensures ∙ ap signed (word 0 (omega arith))) i;
       lon = (toZ-ofZ {w = w32} {z = c .before .before .field2 .result} (search needs) ∙ c .before .before .field2 .ensures ∙ ap signed (word 4 (omega arith))) i;
       alt = (toZ-ofZ {w = w32} {z = c .before .field3 .result} (search needs) ∙ c .before .field3 .ensures ∙ ap signed (word 8 (omega arith))) i;
-      time = (c .le32 .ensures ∙ word 12 (omega arith)) i;
+      time = (c .le32 .ensures .value ∙ word 12 (omega arith)) i;
     })
 
 pub from-bytes-spec : {M : Type 1} → statement M

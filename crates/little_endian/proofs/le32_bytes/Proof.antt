@@ -1,8 +1,8 @@
--- `frame::position::le32_bytes` meets its contract. Assumes nothing.
+-- `little_endian::le32_bytes` meets its contract. Assumes nothing.
 use borrow.Author.Needs.{needs}
-use Rattle.frame.proofs.Signs.{four-bytes}
-use Rattle.frame.proofs.position.le32_bytes.Statement.{statement}
-use Rattle.frame.proofs.position.le32_bytes.Tie as tie
+use Rattle.little_endian.proofs.FourBytes.{four-bytes}
+use Rattle.little_endian.proofs.le32_bytes.Statement.{statement}
+use Rattle.little_endian.proofs.le32_bytes.Tie as tie
 
 returns : tie.Need-returns
 returns c = four-bytes _ (c .fits .x .fits)
