@@ -1,0 +1,111 @@
+//! RFC 8452's lists, and the refusals of sealing and opening in document 01's order.
+
+mod common;
+
+use common::unhex;
+use khumbuseal::{open, seal, Refusal, MAX_AD, MAX_PLAINTEXT};
+
+/// Buffers are filled with this byte, so that one which a call should have left alone shows.
+const UNTOUCHED: u8 = 0xA5;
+
+const APPENDIX_C: &str = include_str!("../../../crates/vectors_siv/data/rfc8452_appendix_c.txt");
+const SECTION_8: &str = include_str!("../../../crates/vectors_siv/data/rfc8452_section_8.txt");
+const ALTERED: &str = include_str!("../../../crates/vectors_siv/data/altered.txt");
+
+/// The lines of a list: key, nonce, associated data, plaintext, sealed part.
+fn lines(list: &str) -> Vec<[Vec<u8>; 5]> {
+    list.lines()
+        .filter(|line| !line.starts_with('#'))
+        .map(|line| line.split(' ').map(unhex).collect::<Vec<_>>().try_into().unwrap())
+        .collect()
+}
+
+#[test]
+fn the_lists_of_rfc_8452() {
+    let all = [lines(APPENDIX_C), lines(SECTION_8)].concat();
+    assert!(all.len() > 40);
+    for [key, nonce, ad, plaintext, sealed] in all {
+        let mut out = [UNTOUCHED; 200];
+        assert_eq!(seal(&key, &nonce, &ad, &plaintext, &mut out).unwrap(), sealed);
+        assert!(out[sealed.len()..].iter().all(|&b| b == UNTOUCHED));
+        let mut out = [UNTOUCHED; 200];
+        assert_eq!(open(&key, &nonce, &ad, &sealed, &mut out).unwrap(), plaintext);
+        assert!(out[plaintext.len()..].iter().all(|&b| b == UNTOUCHED));
+    }
+}
+
+#[test]
+fn altered_lines_are_neither_sealed_nor_opened_so() {
+    for [key, nonce, ad, plaintext, sealed] in lines(ALTERED) {
+        let mut out = [UNTOUCHED; 200];
+        assert_ne!(seal(&key, &nonce, &ad, &plaintext, &mut out).unwrap(), sealed);
+        let mut out = [UNTOUCHED; 200];
+        match open(&key, &nonce, &ad, &sealed, &mut out) {
+            Ok(opened) => assert_ne!(opened, plaintext),
+            Err(refusal) => {
+                assert_eq!(refusal, Refusal::TagDiffers);
+                assert_eq!(out, [UNTOUCHED; 200]);
+            }
+        }
+    }
+}
+
+/// The first number of the order whose fault is in the set.
+fn first_of(order: &[u8], faults: usize) -> Option<Refusal> {
+    (0..order.len()).find(|i| faults >> i & 1 == 1).map(|i| Refusal::from_number(order[i]).unwrap())
+}
+
+#[test]
+fn sealing_refuses_in_order() {
+    for faults in 0..32 {
+        let has = |fault: usize| faults >> fault & 1 == 1;
+        let text = vec![4; MAX_PLAINTEXT + usize::from(has(3))];
+        let mut out = vec![UNTOUCHED; text.len() + 16 - usize::from(has(4))];
+        let given = seal(
+            &[1; 32][..if has(0) { 31 } else { 32 }],
+            &[2; 12][..if has(1) { 11 } else { 12 }],
+            &vec![3; MAX_AD + usize::from(has(2))],
+            &text,
+            &mut out,
+        );
+        let wanted = first_of(&[1, 2, 4, 5, 7], faults);
+        assert_eq!(given.err(), wanted);
+        assert!(wanted.is_none() || out.iter().all(|&b| b == UNTOUCHED));
+    }
+}
+
+#[test]
+fn opening_refuses_in_order() {
+    for faults in 0..128 {
+        let has = |fault: usize| faults >> fault & 1 == 1;
+        if has(3) && has(4) {
+            continue; // too short and too long at once
+        }
+        let mut sealed = [0; MAX_PLAINTEXT + 17];
+        seal(&[1; 16], &[2; 12], &[3; MAX_AD], &[4; MAX_PLAINTEXT], &mut sealed).unwrap();
+        sealed[MAX_PLAINTEXT + 15] ^= u8::from(has(6));
+        let size = if has(3) { 15 } else { MAX_PLAINTEXT + 16 + usize::from(has(4)) };
+        let mut out = vec![UNTOUCHED; size.saturating_sub(16 + usize::from(has(5)))];
+        let given = open(
+            &[1; 16][..if has(0) { 0 } else { 16 }],
+            &[2; 13][..if has(1) { 13 } else { 12 }],
+            &vec![3; MAX_AD + usize::from(has(2))],
+            &sealed[..size],
+            &mut out,
+        );
+        let wanted = first_of(&[1, 2, 4, 6, 5, 7, 8], faults);
+        assert_eq!(given.err(), wanted);
+        assert!(out.iter().all(|&b| b == if wanted.is_none() { 4 } else { UNTOUCHED }));
+    }
+}
+
+#[test]
+fn every_number_of_document_01_has_its_refusal() {
+    assert_eq!(Refusal::from_number(0), None);
+    for number in 1..=15 {
+        assert_eq!(Refusal::from_number(number).unwrap().number(), number);
+    }
+    assert_eq!(Refusal::from_number(16), None);
+    assert_eq!(Refusal::from_number(255), None);
+    assert_eq!(Refusal::CutShort.to_string(), "the frame is cut short");
+}
