@@ -1,6 +1,7 @@
 // The calls on one vector: its fields stand one behind the other, and the cuts say where each ends.
 use aead::bytes;
 
+// What every byte of an output is before a call.
 const MARK: u8 = 0xa5;
 
 // A part of s, or nothing where s has no such part.
@@ -30,6 +31,7 @@ fn is_only(out: &[u8], s: &[u8]) -> bool {
     check::same(part(out, 0, s.len()), s) && is_marked(out, s.len())
 }
 
+// Opens the sealed part of a vector.
 fn open_with(fields: &[u8], cuts: [usize; 5], out: &mut [u8]) -> u8 {
     siv::open(
         part(fields, 0, cuts[0]),
@@ -60,6 +62,7 @@ pub(crate) fn opens(fields: &[u8], cuts: [usize; 5]) -> bool {
     answer == answer::DONE && is_only(&out, part(fields, cuts[2], cuts[3]))
 }
 
+// Byte i with its lowest bit turned over, where s has it.
 fn change(s: &mut [u8], i: usize) {
     if i < s.len() {
         s[i] = s[i] ^ 1;

@@ -8,8 +8,8 @@ mod words;
 
 use libc::STDOUT_FILENO;
 use tally::Tally;
-ghost use Rattle.io.specs.Counts.{Counts};
 
+// Whether a line is neither empty nor a remark.
 fn is_vector(line: &[u8]) -> bool {
     if line.len() == 0 {
         return false;
@@ -39,23 +39,11 @@ fn count(s: &[u8]) -> Tally {
     t
 }
 
-fn read_file(name: &[u8], buf: &mut [u8]) -> usize
-    ensures { λ r. ⌜ Counts r (now (buf .exit)) ⌝ }
-{
-    let fd = os::open_read(name);
-    if fd < 0 {
-        os::fail(name);
-        return 0;
-    }
-    let n = io::read_full(fd, buf);
-    libc::close(fd);
-    n
-}
-
+// One list: its name, and what it came to.
 fn run(name: &[u8]) {
     let mut buf = io::large_buffer();
-    let n = read_file(name, &mut buf);
-    let t = count(&buf[..n]);
+    let got = files::fetch(name, &mut buf);
+    let t = count(&buf[..got.count]);
     io::write_all(STDOUT_FILENO, name);
     io::write_all(STDOUT_FILENO, b"\n");
     t.show();

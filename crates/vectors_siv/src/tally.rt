@@ -9,10 +9,12 @@ pub(crate) struct Score {
 }
 
 impl Score {
+    // Nothing was tried yet.
     fn new() -> Score {
         Score { tried: 0, right: 0 }
     }
 
+    // With one try more.
     fn with(self, right: bool) -> Score {
         let tried = std::num::wrapping_add_u64(self.tried, 1);
         if right {
@@ -43,6 +45,7 @@ impl Score {
         self.with(calls::refuses(fields, cuts, i))
     }
 
+    // One line of the report.
     fn show(self, name: &[u8]) {
         io::write_all(STDOUT_FILENO, b"  ");
         io::write_all(STDOUT_FILENO, name);
@@ -54,6 +57,7 @@ impl Score {
     }
 }
 
+// The scores of a list, one for each thing that is tried of a vector.
 pub(crate) struct Tally {
     sealed: Score,
     opened: Score,
@@ -70,6 +74,7 @@ fn tag_start(end: usize) -> usize {
 }
 
 impl Tally {
+    // Of no vector yet.
     pub(crate) fn new() -> Tally {
         Tally {
             sealed: Score::new(),
@@ -103,6 +108,7 @@ impl Tally {
         }
     }
 
+    // The report: what was tried, and how often it went right.
     pub(crate) fn show(self) {
         let sealed = self.sealed;
         sealed.show(b"sealed as listed");
