@@ -32,23 +32,21 @@ use Rattle.message.proofs.Sealing.{opened-length}
 refuses : (a : ℕ) (m : Message) → (a ≡ 0 → ⊥) → Refused a ≡ orRefused a m
 refuses a m h = sym (rw (ne-eqb a 0 h))
 
-leaves : (a : ℕ) (new out : List ℕ) → (a ≡ 0 → ⊥) → out ≡ written a new out
+pub leaves : (a : ℕ) (new out : List ℕ) → (a ≡ 0 → ⊥) → out ≡ written a new out
 leaves a new out h = sym (rw (ne-eqb a 0 h))
+
+pub put-done : (a : ℕ) (text out after : List ℕ) → a ≡ 0 → length text ≤ length out → after ≡ copied text out → after ≡ written a text out
+put-done a text out after z l e = e ∙ copied-fits text out l ∙ ap (λ n. written n text out) (sym z)
 
 -- a plaintext that was asked, and is handed over or not
 module _ (kind taken : ℕ) (text out : List ℕ) (a : ℕ) (e : a ≡ contentAnswer kind text) where
-  pub kept : (a ≡ 0 → ⊥) → (Refused a ≡ orRefused (contentAnswer kind text) (messageOf kind text taken)) × (out ≡ written (contentAnswer kind text) text out)
-  kept h = (
-    refuses a _ h ∙ ap (λ n. orRefused n (messageOf kind text taken)) e,
-    leaves a text out h ∙ ap (λ n. written n text out) e,
-  )
+  pub kept : (after : List ℕ) → (a ≡ 0 → ⊥) → after ≡ written a text out
+      → (Refused a ≡ orRefused (contentAnswer kind text) (messageOf kind text taken)) × (after ≡ written (contentAnswer kind text) text out)
+  kept after h ea = (refuses a _ h ∙ ap (λ n. orRefused n (messageOf kind text taken)) e, ea ∙ ap (λ n. written n text out) e)
 
-  pub handed-over : (r : Message) (after : List ℕ) → a ≡ 0 → length text ≤ length out → r ≡ messageOf kind text taken → after ≡ copied text out
+  pub handed-over : (r : Message) (after : List ℕ) → a ≡ 0 → r ≡ messageOf kind text taken → after ≡ written a text out
       → (r ≡ orRefused (contentAnswer kind text) (messageOf kind text taken)) × (after ≡ written (contentAnswer kind text) text out)
-  handed-over r after z l er ea = (
-    er ∙ ap (λ n. orRefused n (messageOf kind text taken)) (sym z ∙ e),
-    ea ∙ copied-fits text out l ∙ ap (λ n. written n text out) (sym z ∙ e),
-  )
+  handed-over r after z er ea = (er ∙ ap (λ n. orRefused n (messageOf kind text taken)) (sym z ∙ e), ea ∙ ap (λ n. written n text out) e)
 
 -- where no frame stands the reason answers, with any room, and nothing is written
 module _ (key s : List ℕ) (r : ℕ) (e : frontOf s ≡ Stop r) where

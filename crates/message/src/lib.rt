@@ -195,6 +195,16 @@ fn open_sealed(key: &[u8], s: &[u8], taken: usize, out: &mut [u8]) -> u8
     siv::open(key, &s[4..16], &s[..4], &s[16..taken], out)
 }
 
+// Puts a plaintext to the front of out where the answer is 0. A refusal leaves out as it was.
+fn put_accepted(answer: u8, text: &[u8], out: &mut [u8])
+    requires { ⌜ length (now text) ≤ length (now out) ⌝ }
+    ensures { λ _. ⌜ now (out .exit) ≡ written answer (now (text .entry)) (now (out .entry)) ⌝ }
+{
+    if answer == answer::DONE {
+        aead::bytes::copy(text, out);
+    }
+}
+
 // Hands over an opened plaintext: what it says, and its bytes at the front of out. A refused one leaves
 // out as it was.
 fn deliver(kind: u8, text: &[u8], taken: usize, out: &mut [u8]) -> Message
@@ -203,10 +213,10 @@ fn deliver(kind: u8, text: &[u8], taken: usize, out: &mut [u8]) -> Message
     ensures memory { λ _. ⌜ now (out .exit) ≡ written (contentAnswer kind (now (text .entry))) (now (text .entry)) (now (out .entry)) ⌝ }
 {
     let content = content_refusal(kind, text);
+    put_accepted(content, text, out);
     if content != answer::DONE {
         return Message::Refused(content);
     }
-    aead::bytes::copy(text, out);
     message_of(kind, text, taken)
 }
 
