@@ -1,7 +1,7 @@
 /* Khumbuseal for C and C++: hashing (POLYVAL, GHASH), sealing (AES-GCM-SIV, RFC 8452), message frames.
 
-   Link with libkhumbuseal.a (`rt staticlib khumbuseal`), which is made for x86-64 Linux. It calls nothing, allocates
-   nothing and keeps nothing between calls: two threads may call it at once on different memory. Each function is
+   Link with libkhumbuseal.a (`rt staticlib khumbuseal`), which is made for x86-64 Linux. It calls nothing but memcpy,
+   allocates nothing and keeps nothing between calls: two threads may call it at once on different memory. Each function is
    proved to meet a contract that fixes its result and every byte it may write (docs/PROMISES.md, khumbuseal);
    that this header declares the same functions is not proved (docs/TRUST.md).
 
