@@ -1,6 +1,7 @@
 // framelog KEY LOG: reads a log under a key file of 16 or 32 raw bytes, and prints a line for each frame and
 // why it stopped. The log is read in pieces through a window, never whole; whether it is too long is known
 // before the first line. Where a file cannot be read, the reason goes to standard error.
+use answer::DONE;
 use files::Got;
 use frame::position::Position;
 use libc::STDERR_FILENO;
@@ -99,23 +100,17 @@ fn frame_line(key: &[u8], held: &[u8], kind: u8, taken: usize, offset: u64, out:
         Message::Text { len, taken: _ } => show::line(
             offset,
             kind,
-            answer::DONE,
+            DONE,
             b"text: ",
             &plain[..len],
             out,
         ),
-        Message::CheckIn { taken: _ } => show::line(
-            offset,
-            kind,
-            answer::DONE,
-            b"check-in",
-            b"",
-            out,
-        ),
+        Message::CheckIn { taken: _ } => show::line(offset, kind, DONE, b"check-in", b"", out),
         Message::Refused(why) => refused_line(offset, kind, why, out),
     }
 }
 
+// Prints the line of the frame at the front of held.
 fn put_frame(key: &[u8], held: &[u8], kind: u8, taken: usize, offset: usize)
     requires { ⌜ frontOf (now held) ≡ Whole kind taken ⌝ }
 {
@@ -155,12 +150,14 @@ fn stop_line(reason: u8, offset: u64, frames: u64, out: &mut [u8]) -> usize
     }
 }
 
+// Prints the last line.
 fn put_stop(reason: u8, offset: usize, frames: u64) {
     let mut out = io::buffer();
     let n = stop_line(reason, offset as u64, frames, &mut out);
     io::write_all(STDOUT_FILENO, &out[..n]);
 }
 
+// The smaller of two numbers.
 fn smaller(a: usize, b: usize) -> usize
     ensures { λ r. ⌜ (r ≤ a) × (r ≤ b) ⌝ }
 {
@@ -246,6 +243,7 @@ fn walk(fd: i32, path: &[u8], key: &[u8], len: usize)
     }
 }
 
+// One read of a log that is only measured: what it read is dropped.
 fn measure_some(fd: i32, path: &[u8]) -> Got
     ensures { λ r. ⌜ r .count ≤ 65536 ⌝ }
 {
@@ -270,6 +268,7 @@ fn measure(fd: i32, path: &[u8]) -> Measured {
     Measured { failed: false, len }
 }
 
+// Prints the answer to a log that is too long.
 fn put_too_long() {
     io::write_all(STDOUT_FILENO, b"refused ");
     io::print_decimal(STDOUT_FILENO, answer::LOG_TOO_LONG as u64);
@@ -296,6 +295,7 @@ fn read_log(fd: i32, path: &[u8], key: &[u8]) {
     walk(fd, path, key, len);
 }
 
+// Reads the log at path under the key at key_path.
 fn run(key_path: &[u8], path: &[u8]) {
     let mut key = [0u8; KEY_ROOM];
     let got = files::fetch(key_path, &mut key);
@@ -311,6 +311,7 @@ fn run(key_path: &[u8], path: &[u8]) {
     libc::close(fd);
 }
 
+// Takes the names of both files from the words that the program was started with.
 fn main() {
     if os::arg_count() != 3 {
         io::write_all(STDERR_FILENO, b"usage: framelog KEY LOG\n");

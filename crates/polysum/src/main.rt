@@ -59,10 +59,12 @@ fn feed_all(fd: i32, path: &[u8], start: Hash) -> Fold {
     fold
 }
 
+// Prints a byte as two hex digits.
 fn put_byte(b: u8) {
     io::print_hex(STDOUT_FILENO, b as u64, 2);
 }
 
+// Prints a tag in hex.
 fn put_tag(tag: [u8; 16]) {
     let mut i = 0;
     while i < 16 {
@@ -80,6 +82,7 @@ fn put_refusal(answer: u8) {
     }
 }
 
+// Prints the tag, or the answer of a finish that refused.
 fn report(done: Finished) {
     if done.answer == answer::DONE {
         let tag = done.tag;
@@ -90,6 +93,7 @@ fn report(done: Finished) {
     io::write_all(STDOUT_FILENO, b"\n");
 }
 
+// Prints the line of a call that refused.
 fn refuse(answer: u8) {
     put_refusal(answer);
     io::write_all(STDOUT_FILENO, b"\n");
@@ -114,6 +118,7 @@ fn hash_file(path: &[u8], start: Hash) {
     report(hash.finish(Route::Wide));
 }
 
+// Hashes the file at path under the key at key_path.
 fn run(key_path: &[u8], path: &[u8]) {
     let mut key = [0u8; KEY_ROOM];
     let got = files::fetch(key_path, &mut key);
@@ -130,6 +135,7 @@ fn run(key_path: &[u8], path: &[u8]) {
     hash_file(path, hash);
 }
 
+// Takes the names of both files from the words that the program was started with.
 fn main() {
     if os::arg_count() != 3 {
         io::write_all(STDERR_FILENO, b"usage: polysum KEY FILE\n");

@@ -1,4 +1,5 @@
 -- The laws of the crate record.
 pub mod Powers
 pub mod Whole
+pub mod Trips
 pub mod Unique

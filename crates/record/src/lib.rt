@@ -30,6 +30,7 @@ fn put_block(out: &mut [u8], at: usize, b: [u8; 16]) -> usize
     place::put(out, at, &b)
 }
 
+// A power and its D value at a place.
 fn put_power(out: &mut [u8], at: usize, p: Power) -> usize
     requires { ⌜ at + 32 ≤ length (now out) ⌝ }
     ensures { λ r. ⌜ Wrote (now (out .entry)) at (powersBytes (p ∷ [])) (now (out .exit)) r ⌝ }
@@ -41,6 +42,7 @@ fn put_power(out: &mut [u8], at: usize, p: Power) -> usize
     put_block(out, next, d.to_bytes())
 }
 
+// All powers of a stored key, at the front.
 fn put_powers(out: &mut [u8], powers: [Power; POWERS]) -> usize
     requires { ⌜ keySize ≤ length (now out) ⌝ }
     ensures { λ r. ⌜ Wrote (now (out .entry)) 0 (powersBytes powers) (now (out .exit)) r ⌝ }
@@ -93,6 +95,7 @@ fn power_at(b: &[u8], at: usize) -> Power
     }
 }
 
+// The powers that stand at the front.
 fn powers_in(b: &[u8]) -> [Power; POWERS]
     requires { ⌜ keySize ≤ length (now b) ⌝ }
     ensures { λ r. ⌜ r ≡ powersAt powerCount 0 (now (b .entry)) ⌝ }

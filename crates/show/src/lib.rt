@@ -17,6 +17,7 @@ pub const ROOM: usize = 256;
 
 // Each function that puts something stores it at the place at and answers the place behind it.
 
+// One byte.
 fn put(out: &mut [u8], at: usize, b: u8) -> usize
     requires { ⌜ at < length (now out) ⌝ }
     ensures { λ r. ⌜ Wrote (now (out .entry)) at (b ∷ []) (now (out .exit)) r ⌝ }
@@ -25,6 +26,7 @@ fn put(out: &mut [u8], at: usize, b: u8) -> usize
     at + 1
 }
 
+// A word as it is.
 fn put_word(out: &mut [u8], at: usize, word: &[u8]) -> usize
     requires { ⌜ at + length (now word) ≤ length (now out) ⌝ }
     ensures { λ r. ⌜ Wrote (now (out .entry)) at (now (word .entry)) (now (out .exit)) r ⌝ }
@@ -52,6 +54,7 @@ fn put_digits(out: &mut [u8], at: usize, k: usize, n: u64) -> usize
     put_digit(out, next, n)
 }
 
+// n in decimal, with just the room that it takes.
 fn put_all_digits(out: &mut [u8], at: usize, n: u64) -> usize
     requires { ⌜ at + length (decimal n) ≤ length (now out) ⌝ }
     ensures { λ r. ⌜ Wrote (now (out .entry)) at (decimal n) (now (out .exit)) r ⌝ }
@@ -79,6 +82,7 @@ fn magnitude(z: i32) -> u32
     if z < 0 { (-1 - z) as u32 + 1 } else { z as u32 }
 }
 
+// A minus sign before a negative number, nothing before another.
 fn put_sign(out: &mut [u8], at: usize, z: i32) -> usize
     requires { ⌜ at < length (now out) ⌝ }
     ensures { λ r. ⌜ Wrote (now (out .entry)) at (sign z) (now (out .exit)) r ⌝ }
@@ -101,6 +105,7 @@ fn put_fixed(out: &mut [u8], at: usize, z: i32, places: usize, unit: u64) -> usi
     put_digits(out, point, places, m)
 }
 
+// Whether a byte may be shown as it is: from 0x20 to 0x7E, and not the backslash.
 fn is_plain(b: u8) -> bool
     ensures { λ r. ⌜ r ≡ plain b ⌝ }
 {
@@ -113,6 +118,7 @@ fn is_plain(b: u8) -> bool
     }
 }
 
+// The character of a number below 16.
 fn hex_digit(d: u8) -> u8
     requires { ⌜ d < 16 ⌝ }
     ensures { λ r. ⌜ r ≡ hexDigit d ⌝ }
@@ -132,6 +138,7 @@ fn put_hex(out: &mut [u8], at: usize, b: u8) -> usize
     )
 }
 
+// A byte as itself where it is plain, else as its escape.
 fn put_shown(out: &mut [u8], at: usize, b: u8) -> usize
     requires { ⌜ at + 4 ≤ length (now out) ⌝ }
     ensures { λ r. ⌜ Wrote (now (out .entry)) at (shown b) (now (out .exit)) r ⌝ }
@@ -172,7 +179,7 @@ fn put_head(out: &mut [u8], at: usize, offset: u64, kind: u8, answer: u8) -> usi
     put_decimal(out, fourth, answer as u64)
 }
 
-// The fields of a position, in degrees, metres and seconds.
+// Latitude and longitude in degrees.
 fn put_angles(out: &mut [u8], at: usize, lat: i32, lon: i32) -> usize
     requires { ⌜ at + 82 ≤ length (now out) ⌝ }
     ensures { λ r. ⌜ Wrote (now (out .entry)) at (anglesOf lat lon) (now (out .exit)) r ⌝ }
@@ -185,6 +192,7 @@ fn put_angles(out: &mut [u8], at: usize, lat: i32, lon: i32) -> usize
     put_word(out, d, b" deg")
 }
 
+// Altitude in metres, and time in seconds.
 fn put_height(out: &mut [u8], at: usize, alt: i32, time: u32) -> usize
     requires { ⌜ at + 69 ≤ length (now out) ⌝ }
     ensures { λ r. ⌜ Wrote (now (out .entry)) at (heightOf alt time) (now (out .exit)) r ⌝ }
@@ -208,6 +216,7 @@ fn is_enough(room: usize, n: usize) -> bool
     }
 }
 
+// The line of a frame, where there is room for it.
 fn put_line(out: &mut [u8], offset: u64, kind: u8, answer: u8, label: &[u8], s: &[u8]) -> usize
     requires { ⌜ roomFor (length (now label) + length (now s)) ≤ length (now out) ⌝ }
     ensures { λ r. ⌜ Wrote (now (out .entry)) 0 (lineOf offset kind answer (now (label .entry)) (now (s .entry))) (now (out .exit)) r ⌝ }
@@ -230,6 +239,7 @@ pub fn line(offset: u64, kind: u8, answer: u8, label: &[u8], s: &[u8], out: &mut
     0
 }
 
+// The line of a position, where there is room for it.
 fn put_position_line(out: &mut [u8], offset: u64, kind: u8, p: Position) -> usize
     requires { ⌜ roomFor 0 ≤ length (now out) ⌝ }
     ensures { λ r. ⌜ Wrote (now (out .entry)) 0 (positionLineOf offset kind (p .lat) (p .lon) (p .alt) (p .time)) (now (out .exit)) r ⌝ }
@@ -266,6 +276,7 @@ fn put_stop(out: &mut [u8], at: usize, reason: u8, offset: u64, frames: u64) -> 
     put_word(out, f, b": ")
 }
 
+// The last line, where there is room for it.
 fn put_stop_line(out: &mut [u8], reason: u8, offset: u64, frames: u64, note: &[u8]) -> usize
     requires { ⌜ roomFor (length (now note)) ≤ length (now out) ⌝ }
     ensures { λ r. ⌜ Wrote (now (out .entry)) 0 (stopLineOf reason offset frames (now (note .entry))) (now (out .exit)) r ⌝ }
