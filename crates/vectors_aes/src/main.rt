@@ -2,9 +2,7 @@
 // encryption, in hex with a space between; a line that begins with # is a remark.
 use libc::STDOUT_FILENO;
 ghost use mathlib.Core.Path.{_≡_};
-ghost use Prim.Native.Nat.{_≤_};
 ghost use lib.ListN.{length};
-ghost use Rattle.io.specs.Counts.{Counts};
 
 // What a list came to.
 struct Tally {
@@ -19,35 +17,15 @@ struct Pair {
     sealed: [u8; 16],
 }
 
-// The value of a hex digit, and 16 for any other byte.
-fn digit(c: u8) -> u8
-    ensures { λ r. ⌜ r ≤ 16 ⌝ }
-{
-    match c {
-        b'0'..=b'9' => c - b'0',
-        b'a'..=b'f' => c - b'a' + 10,
-        _ => 16,
-    }
-}
-
 // Fills out from hex; false where s is no hex of that many bytes.
 fn unhex(s: &[u8], out: &mut [u8]) -> bool {
-    if s.len() != 2 * out.len() {
+    if s.len() / 2 != out.len() {
         return false;
     }
-    let mut i = 0;
-    while i < out.len() {
-        let high = digit(s[2 * i]);
-        let low = digit(s[2 * i + 1]);
-        if 15 < high {
-            return false;
-        }
-        if 15 < low {
-            return false;
-        }
-        out[i] = high * 16 + low;
-        i += 1;
+    if !lines::is_hex(s) {
+        return false;
     }
+    lines::from_hex(s, out);
     true
 }
 
@@ -126,27 +104,12 @@ fn tallied(t: Tally, line: &[u8]) -> Tally {
     }
 }
 
-// Where the line that starts at from ends.
-fn line_end(s: &[u8], from: usize) -> usize
-    requires { ⌜ from ≤ length (now s) ⌝ }
-    ensures { λ r. ⌜ (from ≤ r) × (r ≤ length (now (s .entry))) ⌝ }
-{
-    let mut end = from;
-    while end < s.len() {
-        if s[end] == b'\n' {
-            return end;
-        }
-        end += 1;
-    }
-    end
-}
-
 // The tally of a whole list.
 fn count(s: &[u8]) -> Tally {
     let mut t = Tally { lines: 0, agree: 0 };
     let mut at = 0;
     while at < s.len() {
-        let end = line_end(s, at);
+        let end = bytes::scan::find(s, at, s.len(), b'\n');
         t = tallied(t, &s[at..end]);
         at = end + 1;
     }
@@ -163,24 +126,11 @@ fn show(name: &[u8], t: Tally) {
     io::write_all(STDOUT_FILENO, b"\n");
 }
 
-// Reads a file into buf, as far as there is room, and answers how many bytes.
-fn read_file(name: &[u8], buf: &mut [u8]) -> usize
-    ensures { λ r. ⌜ Counts r (now (buf .exit)) ⌝ }
-{
-    let fd = os::open_read(name);
-    if fd < 0 {
-        os::fail(name);
-        return 0;
-    }
-    let n = io::read_full(fd, buf);
-    libc::close(fd);
-    n
-}
-
 // Runs one list.
 fn run(name: &[u8]) {
     let mut buf = io::large_buffer();
-    let n = read_file(name, &mut buf);
+    let got = files::fetch(name, &mut buf);
+    let n = got.count;
     show(name, count(&buf[..n]));
 }
 

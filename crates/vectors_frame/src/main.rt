@@ -4,25 +4,11 @@ mod found;
 mod said;
 mod written;
 
-ghost use Rattle.io.specs.Counts.{Counts};
-
-fn read_file(name: &[u8], buf: &mut [u8]) -> usize
-    ensures { λ r. ⌜ Counts r (now (buf .exit)) ⌝ }
-{
-    let fd = os::open_read(name);
-    if fd < 0 {
-        os::fail(name);
-        return 0;
-    }
-    let n = io::read_full(fd, buf);
-    libc::close(fd);
-    n
-}
-
 fn main() {
     written::all();
     let mut buf = io::buffer();
-    let n = read_file(b"log", &mut buf);
+    let got = files::fetch(b"log", &mut buf);
+    let n = got.count;
     found::each(&buf[..n]);
     found::scans(&buf[..n]);
 }
