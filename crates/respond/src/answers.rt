@@ -1,64 +1,56 @@
-// One line, one answer: the first word says which request it is, and its letters which words follow.
+// One line, one answer. The table has a row for each request: its name, a letter for each word that follows (module
+// words), and the form of its answer (module print).
 use crate::arithmetic;
-use crate::frames;
+use crate::calls;
 use crate::hashing;
 use crate::print;
+use crate::print::Said;
 use crate::requests;
-use crate::sealing;
+use crate::requests::Row;
 use crate::words;
 
 // The request that a line is, its words in the slots.
-fn understood(line: &[u8], arena: &mut [u8], slots: &mut [u64]) -> usize {
-    let table =
-        b"product64=xx bmul32=yy reverse64=x reverse32=y add=ee dot=ee dot32=ee rf=ee mulx=e reverse=e expand=e check=k start=b blocks=tKEEnb padded=tKEEnb piece=tKEEnb finish=tKEEn reset=KEEn join=KEEnKEEnn ghash=bb aes=ce seal=bbbbr open=bbbbr write=ibbbr read=bbr scan=b";
+fn understood(table: &[u8], line: &[u8], arena: &mut [u8], slots: &mut [u64]) -> Row {
     let end = words::first_end(line);
     let row = requests::row_of(table, words::part(line, 0, end));
-    if words::read(
-        words::part(table, row.from, row.to),
-        line,
-        end,
-        arena,
-        slots,
-    ) {
-        return row.code;
+    let letters = words::part(table, row.from, row.to);
+    if words::read(letters, line, end, arena, slots) {
+        return row;
     }
-    requests::NONE
+    Row::none()
 }
 
-// The call that a request asks for, and what it says. A call that writes does so into the space.
-fn carry_out(
-    code: usize,
-    arena: &[u8],
-    slots: &[u64],
-    space: &mut [u8],
-    out: &mut [u8],
-    at: usize,
-) -> usize {
+// The call that a request asks for, and what it says. Bytes that it says it puts into the space.
+fn carry_out(code: usize, arena: &[u8], slots: &[u64], space: &mut [u8]) -> Said {
+    if code == requests::NONE {
+        return Said::numbers(0, 0, 0);
+    }
     if code <= requests::REVERSE {
-        return arithmetic::answer(code, arena, slots, out, at);
+        return arithmetic::answer(code, arena, slots, space);
     }
     if code <= requests::JOIN {
-        return hashing::answer(code, arena, slots, out, at);
+        return hashing::answer(code, arena, slots, space);
     }
-    if code <= requests::OPEN {
-        return sealing::answer(code, arena, slots, space, out, at);
-    }
-    if code <= requests::SCAN {
-        return frames::answer(code, arena, slots, space, out, at);
-    }
-    print::bad(out, at)
+    calls::answer(code, arena, slots, space)
 }
 
-// The answer to a line goes behind what waits in `out`. Once its words are in the arena the line is not needed
-// any more, and its buffer is the space that a call writes to.
-pub(crate) fn answer(
-    line: &mut [u8],
-    have: usize,
-    arena: &mut [u8],
-    out: &mut [u8],
-    at: usize,
-) -> usize {
+// The answer to a line goes behind the `at` bytes that wait in `out`. Until it is printed there, that part of `out`
+// holds the bytes of the line's words. Once they are there the line is needed no more, and its buffer is the space
+// that a call writes to.
+pub(crate) fn answer(line: &mut [u8], have: usize, out: &mut [u8], at: usize) -> usize {
+    let table =
+        b"=/? product64=xx/X,X bmul32=yy/Y reverse64=x/X reverse32=y/Y add=ee/E dot=ee/E dot32=ee/E rf=ee/E mulx=e/E reverse=e/E expand=e/K,N check=k/N start=b/N,K:A:P:N,N blocks=tKEEnb/N,K:A:P:N,N padded=tKEEnb/N,K:A:P:N,N piece=tKEEnb/N,K:A:P:N,N finish=tKEEn/N,E,N reset=KEEn/N,K:A:P:N join=KEEnKEEnn/N,K:A:P:N,N ghash=bb/N,E aes=ce/E seal=bbbbr/N,O open=bbbbr/N,O write=ibbbr/N,N,O read=bbr/position,I,I,I,N,N,O|text,N,N,O|check-in,N,O|refused,N,O scan=b/O,N,N";
     let mut slots = [0u64; words::SLOTS];
-    let code = understood(words::part(line, 0, have), arena, &mut slots);
-    carry_out(code, arena, &slots, line, out, at)
+    if at <= out.len() {
+        let row = understood(
+            table,
+            words::part(line, 0, have),
+            &mut out[at..],
+            &mut slots,
+        );
+        let said = carry_out(row.code, &out[at..], &slots, line);
+        let form = print::alternative(words::part(table, row.form, row.end), said.kind);
+        return print::in_form(form, said, line, out, at);
+    }
+    at
 }

@@ -1,34 +1,37 @@
 // Requests on words and on field elements.
-use crate::print;
+use crate::print::Said;
 use crate::requests;
 use crate::words;
 use field::FieldElement;
 
+// The word of 32 bits that a slot holds.
 fn low_half(x: u64) -> u32 {
     (x % 0x1_0000_0000) as u32
 }
 
+// The low word of a carryless product of 32 bits.
 fn bmul32(x: u64, y: u64) -> u64 {
     word::bmul32(low_half(x), low_half(y)) as u64
 }
 
+// A word of 32 bits with its bits turned round.
 fn reverse32(x: u64) -> u64 {
     word::reverse32(low_half(x)) as u64
 }
 
-fn product64(x: u64, y: u64, out: &mut [u8], at: usize) -> usize {
+// Both words of a carryless product of 64 bits.
+fn product64(x: u64, y: u64) -> Said {
     let p = word::product64(x, y);
-    let low = print::word(out, at, p.lo, 16);
-    let next = print::space(out, low);
-    print::word(out, next, p.hi, 16)
+    Said::numbers(p.lo, p.hi, 0)
 }
 
-fn on_words(code: usize, x: u64, y: u64, out: &mut [u8], at: usize) -> usize {
+// What a request on words says.
+fn on_words(code: usize, x: u64, y: u64) -> Said {
     match code {
-        requests::PRODUCT64 => product64(x, y, out, at),
-        requests::BMUL32 => print::word(out, at, bmul32(x, y), 8),
-        requests::REVERSE64 => print::word(out, at, word::reverse64(x), 16),
-        _ => print::word(out, at, reverse32(x), 8),
+        requests::PRODUCT64 => product64(x, y),
+        requests::BMUL32 => Said::numbers(bmul32(x, y), 0, 0),
+        requests::REVERSE64 => Said::numbers(word::reverse64(x), 0, 0),
+        _ => Said::numbers(reverse32(x), 0, 0),
     }
 }
 
@@ -39,6 +42,7 @@ fn rf(a: FieldElement, b: FieldElement) -> FieldElement {
     product.element
 }
 
+// The element that a request on elements says.
 fn on_elements(code: usize, a: FieldElement, b: FieldElement) -> FieldElement {
     match code {
         requests::ADD => a.add(b),
@@ -50,13 +54,16 @@ fn on_elements(code: usize, a: FieldElement, b: FieldElement) -> FieldElement {
     }
 }
 
-pub(crate) fn answer(code: usize, arena: &[u8], slots: &[u64], out: &mut [u8], at: usize) -> usize {
+// Any of these requests. An element that it says lies in the space.
+pub(crate) fn answer(code: usize, arena: &[u8], slots: &[u64], space: &mut [u8]) -> Said {
     if code <= requests::REVERSE32 {
         let x = words::spelled(arena, slots, 0);
         let y = words::spelled(arena, slots, 1);
-        return on_words(code, x, y, out, at);
+        return on_words(code, x, y);
     }
     let a = words::element(arena, slots, 0);
     let b = words::element(arena, slots, 1);
-    print::element(out, at, on_elements(code, a, b))
+    let said = on_elements(code, a, b).to_bytes();
+    aead::bytes::copy(&said, space);
+    Said::numbers(0, 0, 0)
 }

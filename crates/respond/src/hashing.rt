@@ -1,5 +1,5 @@
 // Requests on stored keys and on hash records.
-use crate::print;
+use crate::print::Said;
 use crate::requests;
 use crate::words;
 use field::FieldElement;
@@ -34,6 +34,7 @@ fn record_at(arena: &[u8], slots: &[u64], i: usize) -> Hash {
     Hash::zero()
 }
 
+// The route that a slot holds by its number.
 fn route_of(n: u64) -> Route {
     match n {
         0 => Route::Wide,
@@ -42,27 +43,30 @@ fn route_of(n: u64) -> Route {
     }
 }
 
-fn expand(h: FieldElement, out: &mut [u8], at: usize) -> usize {
+// What is said of a key with the count spent on it: the record that holds it lies in the space.
+fn expand(h: FieldElement, space: &mut [u8]) -> Said {
     let e = ExpandedKey::expand(h);
     let key = e.key;
-    let holding = Hash {
+    let b = record::encode(Hash {
         key,
         acc: FieldElement::ZERO,
         pending: [0u8; 16],
         count: 0,
-    };
-    let next = print::key(out, at, holding);
-    print::and_number(out, next, e.multiplies)
+    });
+    aead::bytes::copy(&b, space);
+    Said::numbers(e.multiplies, 0, 0)
 }
 
-fn check(h: Hash, out: &mut [u8], at: usize) -> usize {
+// 1 where a stored key passes the check.
+fn check(h: Hash) -> Said {
     let key = h.key;
     if key.check() {
-        return print::text(out, at, b"1");
+        return Said::numbers(1, 0, 0);
     }
-    print::text(out, at, b"0")
+    Said::numbers(0, 0, 0)
 }
 
+// One of the three feeds.
 fn feed(code: usize, h: Hash, route: Route, s: &[u8]) -> Fed {
     match code {
         requests::BLOCKS => h.feed_blocks(route, s),
@@ -71,45 +75,43 @@ fn feed(code: usize, h: Hash, route: Route, s: &[u8]) -> Fed {
     }
 }
 
-// An answer with the record that was made.
-fn made(answer: u8, h: Hash, out: &mut [u8], at: usize) -> usize {
-    let next = print::answered(out, at, answer);
-    print::whole(out, next, h)
+// An answer with the record that was made, and what was spent on it.
+fn made(answer: u8, h: Hash, spent: u64, space: &mut [u8]) -> Said {
+    let b = record::encode(h);
+    aead::bytes::copy(&b, space);
+    Said::numbers(answer as u64, h.count as u64, spent)
 }
 
-fn fed(f: Fed, out: &mut [u8], at: usize) -> usize {
-    let next = made(f.answer, f.hash, out, at);
-    print::and_number(out, next, f.multiplies)
+// What a feed says.
+fn fed(f: Fed, space: &mut [u8]) -> Said {
+    let h = f.hash;
+    made(f.answer, h, f.multiplies, space)
 }
 
-// Reset spends nothing, and says no count.
-fn reset(h: Hash, out: &mut [u8], at: usize) -> usize {
-    let f = h.reset();
-    made(f.answer, f.hash, out, at)
+// What a join says.
+fn joined(j: Joined, space: &mut [u8]) -> Said {
+    let h = j.hash;
+    made(j.answer, h, j.dots, space)
 }
 
-fn joined(j: Joined, out: &mut [u8], at: usize) -> usize {
-    let next = made(j.answer, j.hash, out, at);
-    print::and_number(out, next, j.dots)
-}
-
-fn finished(f: Finished, out: &mut [u8], at: usize) -> usize {
+// What finish says: its tag lies in the space.
+fn finished(f: Finished, space: &mut [u8]) -> Said {
     let tag = f.tag;
-    let next = print::answered(out, at, f.answer);
-    let behind = print::hex(out, next, &tag);
-    print::and_number(out, behind, f.multiplies)
+    aead::bytes::copy(&tag, space);
+    Said::numbers(f.answer as u64, f.multiplies, 0)
 }
 
 // A request whose first word is a route and whose second is a record.
-fn routed(code: usize, arena: &[u8], slots: &[u64], out: &mut [u8], at: usize) -> usize {
+fn routed(code: usize, arena: &[u8], slots: &[u64], space: &mut [u8]) -> Said {
     let route = route_of(words::number(slots, 0));
     let h = record_at(arena, slots, 1);
     if code == requests::FINISH {
-        return finished(h.finish(route), out, at);
+        return finished(h.finish(route), space);
     }
-    fed(feed(code, h, route, words::bytes(arena, slots, 5)), out, at)
+    fed(feed(code, h, route, words::bytes(arena, slots, 5)), space)
 }
 
+// The join of the records of the first four slots and of the next four.
 fn join_two(arena: &[u8], slots: &[u64]) -> Joined {
     join::join(
         record_at(arena, slots, 0),
@@ -118,13 +120,14 @@ fn join_two(arena: &[u8], slots: &[u64]) -> Joined {
     )
 }
 
-pub(crate) fn answer(code: usize, arena: &[u8], slots: &[u64], out: &mut [u8], at: usize) -> usize {
+// Any of these requests. Reset is said like a feed, and its form leaves the count away.
+pub(crate) fn answer(code: usize, arena: &[u8], slots: &[u64], space: &mut [u8]) -> Said {
     match code {
-        requests::EXPAND => expand(words::element(arena, slots, 0), out, at),
-        requests::CHECK => check(stored(words::bytes(arena, slots, 0)), out, at),
-        requests::START => fed(Hash::start(words::bytes(arena, slots, 0)), out, at),
-        requests::RESET => reset(record_at(arena, slots, 0), out, at),
-        requests::JOIN => joined(join_two(arena, slots), out, at),
-        _ => routed(code, arena, slots, out, at),
+        requests::EXPAND => expand(words::element(arena, slots, 0), space),
+        requests::CHECK => check(stored(words::bytes(arena, slots, 0))),
+        requests::START => fed(Hash::start(words::bytes(arena, slots, 0)), space),
+        requests::RESET => fed(record_at(arena, slots, 0).reset(), space),
+        requests::JOIN => joined(join_two(arena, slots), space),
+        _ => routed(code, arena, slots, space),
     }
 }

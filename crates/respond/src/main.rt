@@ -2,12 +2,11 @@
 // in pieces, keeps one line of at most 300,000 characters, and writes its answers many at a time.
 mod answers;
 mod arithmetic;
-mod frames;
+mod calls;
 mod hashing;
 mod print;
 mod reading;
 mod requests;
-mod sealing;
 mod words;
 
 ghost use mathlib.Core.Path.{_≡_};
@@ -20,23 +19,16 @@ fn line_buffer() -> [u8; 300000]
     [0; 300000]
 }
 
-// The bytes that a line spells: two characters make one.
-fn arena_buffer() -> [u8; 150000]
-    ensures { λ r. ⌜ 150000 ≡ length r ⌝ }
-{
-    [0; 150000]
-}
-
-// Answers that wait to be written: what may wait, and the longest answer.
+// Answers that wait to be written: what may wait, and the longest answer, or all the bytes that a line can spell.
 fn out_buffer() -> [u8; 700000]
     ensures { λ r. ⌜ 700000 ≡ length r ⌝ }
 {
     [0; 700000]
 }
 
+// Answers every line of standard input.
 fn main() {
     let mut line = line_buffer();
-    let mut arena = arena_buffer();
     let mut out = out_buffer();
-    reading::run(&mut line, &mut arena, &mut out);
+    reading::run(&mut line, &mut out);
 }

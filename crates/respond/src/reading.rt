@@ -36,17 +36,10 @@ fn fill(piece: &mut [u8], have: usize) -> usize {
 
 // What a piece holds of one line. Where that is its end the line is answered, behind the answers that wait. Of a
 // line that is too long there is no part, and the empty one is no request either.
-fn go_on(
-    s: &[u8],
-    ends: bool,
-    line: &mut [u8],
-    arena: &mut [u8],
-    out: &mut [u8],
-    r: Reading,
-) -> Reading {
+fn go_on(s: &[u8], ends: bool, line: &mut [u8], out: &mut [u8], r: Reading) -> Reading {
     let have = keep(s, line, r.have);
     if ends {
-        let at = answers::answer(line, have, arena, out, r.at);
+        let at = answers::answer(line, have, out, r.at);
         return Reading {
             have: 0,
             at: print::line_end(out, at),
@@ -56,12 +49,12 @@ fn go_on(
 }
 
 // The lines that a piece ends, and what it holds of the next one.
-fn take(piece: &[u8], line: &mut [u8], arena: &mut [u8], out: &mut [u8], r0: Reading) -> Reading {
+fn take(piece: &[u8], line: &mut [u8], out: &mut [u8], r0: Reading) -> Reading {
     let mut r = r0;
     let mut from = 0;
     while from < piece.len() {
         let end = words::find(piece, from, piece.len(), b'\n');
-        r = go_on(&piece[from..end], end < piece.len(), line, arena, out, r);
+        r = go_on(&piece[from..end], end < piece.len(), line, out, r);
         from = end + 1;
     }
     r
@@ -69,14 +62,14 @@ fn take(piece: &[u8], line: &mut [u8], arena: &mut [u8], out: &mut [u8], r0: Rea
 
 // Every line of standard input, answered. Nothing says that the input ends, so the turns are counted down from a
 // number that no run uses up.
-pub(crate) fn run(line: &mut [u8], arena: &mut [u8], out: &mut [u8]) {
+pub(crate) fn run(line: &mut [u8], out: &mut [u8]) {
     let mut space = io::large_buffer();
     let piece: &mut [u8] = &mut space;
     let mut r = Reading { have: 0, at: 0 };
     let mut left = u64::MAX;
     while left > 0 {
         let n = fill(piece, r.have);
-        r = take(words::part(piece, 0, n), line, arena, out, r);
+        r = take(words::part(piece, 0, n), line, out, r);
         if n > 0 {
             left -= 1;
         } else {

@@ -84,10 +84,12 @@ fn word(line: &[u8], at: usize, end: usize) -> &[u8] {
     &line[..0]
 }
 
+// Whether a letter asks for a part of a record that a colon ends.
 fn is_capital(letter: u8) -> bool {
     letter < b'a'
 }
 
+// What ends the word of a letter, where the line does not.
 fn stop_of(letter: u8) -> u8 {
     if is_capital(letter) { b':' } else { b' ' }
 }
@@ -128,6 +130,7 @@ fn decoded(text: &[u8], arena: &mut [u8], fill: usize) -> usize {
     fill
 }
 
+// The slot of a word that says bytes.
 fn bytes_slot(text: &[u8], size: usize, arena: &mut [u8], fill: usize) -> Slot {
     Slot {
         from: fill,
@@ -137,6 +140,7 @@ fn bytes_slot(text: &[u8], size: usize, arena: &mut [u8], fill: usize) -> Slot {
     }
 }
 
+// The slot of a word that says a number: it takes nothing of the arena.
 fn number_slot(said: Number, fill: usize) -> Slot {
     match said {
         Number::Is(n) => Slot {
@@ -163,6 +167,7 @@ fn largest_of(letter: u8) -> u64 {
     }
 }
 
+// A number that is not over the largest.
 fn at_most(largest: u64, said: Number) -> Number {
     match said {
         Number::Is(n) => {
@@ -190,6 +195,7 @@ fn route_of(text: &[u8]) -> Number {
     Number::No
 }
 
+// The slot of a word, as its letter asks.
 fn slot_of(letter: u8, text: &[u8], arena: &mut [u8], fill: usize) -> Slot {
     match letter {
         b'n' | b'r' | b'i' => {
@@ -201,6 +207,7 @@ fn slot_of(letter: u8, text: &[u8], arena: &mut [u8], fill: usize) -> Slot {
     }
 }
 
+// Notes slot i.
 fn put_slot(slots: &mut [u64], i: usize, s: Slot) {
     if i < slots.len() / 3 {
         slots[3 * i] = s.from as u64;
@@ -250,10 +257,12 @@ pub(crate) fn read(
     c.good && c.at == line.len()
 }
 
+// A number of the slots, 0 past them.
 fn slot_number(slots: &[u64], i: usize) -> u64 {
     if i < slots.len() { slots[i] } else { 0 }
 }
 
+// A number of the slots that is a place of the arena.
 fn slot_index(slots: &[u64], i: usize) -> usize {
     slot_number(slots, i) as usize
 }
@@ -297,6 +306,7 @@ pub(crate) fn element(arena: &[u8], slots: &[u64], i: usize) -> FieldElement {
     FieldElement::from_bytes(block(bytes(arena, slots, i)))
 }
 
+// A byte as a number of 64 bits.
 fn wide(b: u8) -> u64 {
     b as u64
 }
@@ -306,6 +316,7 @@ pub(crate) fn spelled(arena: &[u8], slots: &[u64], i: usize) -> u64 {
     big_endian(bytes(arena, slots, i))
 }
 
+// The number that bytes spell, the highest first: its low 64 bits.
 fn big_endian(s: &[u8]) -> u64 {
     let mut x: u64 = 0;
     let mut i = 0;

@@ -6,11 +6,11 @@ use Rattle.respond.proofs.reading.run.Statement.{statement}
 use Rattle.respond.proofs.reading.run.Tie as tie
 
 abbrev Inv-loop : tie.InvT-loop
-Inv-loop line₀ arena₀ out₀ piece₀ r₀ left₀ line arena out piece r left =
-    (length line ≡ length line₀) × (length arena ≡ length arena₀) × (length out ≡ length out₀)
+Inv-loop line₀ out₀ piece₀ r₀ left₀ line out piece r left =
+    (length line ≡ length line₀) × (length out ≡ length out₀)
 
 abbrev μ-loop : tie.MeasureT-loop
-μ-loop line₀ arena₀ out₀ piece₀ r₀ left₀ line arena out piece r left = left
+μ-loop line₀ out₀ piece₀ r₀ left₀ line out piece r left = left
 
 large-buffer-requires : tie.Need-large-buffer-requires Inv-loop μ-loop
 large-buffer-requires c κs = search needs
@@ -54,9 +54,6 @@ same-length c = search needs
 same-length-2 : tie.Need-same-length-2 Inv-loop μ-loop
 same-length-2 c = search needs
 
-same-length-3 : tie.Need-same-length-3 Inv-loop μ-loop
-same-length-3 c = search needs
-
 returns : tie.Need-returns Inv-loop μ-loop
 returns c = search needs
 
@@ -80,5 +77,4 @@ run-spec =
     write-requires
     same-length
     same-length-2
-    same-length-3
     returns)

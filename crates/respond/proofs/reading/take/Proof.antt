@@ -7,11 +7,11 @@ use Rattle.respond.proofs.reading.take.Statement.{statement}
 use Rattle.respond.proofs.reading.take.Tie as tie
 
 abbrev Inv-loop : tie.InvT-loop
-Inv-loop piece line₀ arena₀ out₀ r₀ from₀ line arena out r from =
-    (from ≤ length piece + 1) × (length line ≡ length line₀) × (length arena ≡ length arena₀) × (length out ≡ length out₀)
+Inv-loop piece line₀ out₀ r₀ from₀ line out r from =
+    (from ≤ length piece + 1) × (length line ≡ length line₀) × (length out ≡ length out₀)
 
 abbrev μ-loop : tie.MeasureT-loop
-μ-loop piece line₀ arena₀ out₀ r₀ from₀ line arena out r from = length piece + 1 - from
+μ-loop piece line₀ out₀ r₀ from₀ line out r from = length piece + 1 - from
 
 loop-holds : tie.Need-loop-holds Inv-loop μ-loop
 loop-holds c = search needs
@@ -46,9 +46,6 @@ same-length c = search needs
 same-length-2 : tie.Need-same-length-2 Inv-loop μ-loop
 same-length-2 c = search needs
 
-same-length-3 : tie.Need-same-length-3 Inv-loop μ-loop
-same-length-3 c = search needs
-
 returns : tie.Need-returns Inv-loop μ-loop
 returns c = search needs
 
@@ -69,5 +66,4 @@ take-spec =
     loop-again
     same-length
     same-length-2
-    same-length-3
     returns)

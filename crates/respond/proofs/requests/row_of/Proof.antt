@@ -26,8 +26,8 @@ part-requires c κs = search needs
 same-requires : tie.Need-same-requires Inv-loop μ-loop
 same-requires c κs = search needs
 
-add-t11 : tie.Need-add-t11 Inv-loop μ-loop
-add-t11 c = search needs
+row-at-requires : tie.Need-row-at-requires Inv-loop μ-loop
+row-at-requires c κs = search needs
 
 returns : tie.Need-returns Inv-loop μ-loop
 returns c = search needs
@@ -44,6 +44,9 @@ loop-less c = search needs
 loop-again : tie.Need-loop-again Inv-loop μ-loop
 loop-again c = search needs
 
+none-requires : tie.Need-none-requires Inv-loop μ-loop
+none-requires c κs = search needs
+
 returns-2 : tie.Need-returns-2 Inv-loop μ-loop
 returns-2 c = search needs
 
@@ -58,10 +61,11 @@ row-of-spec =
     find-requires-2
     part-requires
     same-requires
-    add-t11
+    row-at-requires
     returns
     add-from
     add-code
     loop-less
     loop-again
+    none-requires
     returns-2)

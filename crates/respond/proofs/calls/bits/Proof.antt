@@ -1,9 +1,9 @@
--- `respond::print::magnitude` is safe: -1 - z fits where z is below 0, and there is room for one more. Assumes nothing.
+-- `respond::calls::bits` is safe: where z is below 0, -1 - z fits and has no more than 32 bits. Assumes nothing.
 use native.Mathlib.Omega.{arith}
 use borrow.Author.Needs.{needs}
 use Rattle.frame.proofs.Signs.{neg-fits, neg-cast, neg-below, pos-cast}
-use Rattle.respond.proofs.print.magnitude.Statement.{statement}
-use Rattle.respond.proofs.print.magnitude.Tie as tie
+use Rattle.respond.proofs.calls.bits.Statement.{statement}
+use Rattle.respond.proofs.calls.bits.Tie as tie
 
 sub-result : tie.Need-sub-result
 sub-result c = neg-fits _ (c .before .fits .z) (c .if1 .taken)
@@ -14,8 +14,8 @@ cast-result c = neg-cast _ (c .before .fits .z) (c .if1 .taken)
 cast-result-2 : tie.Need-cast-result-2
 cast-result-2 c = record { fits = omega (arith, neg-below _ (c .before .fits .z) (c .if1 .taken)) }
 
-add-result : tie.Need-add-result
-add-result c = record { fits = omega (arith, neg-below _ (c .before .fits .z) (c .if1 .taken)) }
+sub-result-2 : tie.Need-sub-result-2
+sub-result-2 c = neg-below _ (c .before .fits .z) (c .if1 .taken)
 
 cast-result-3 : tie.Need-cast-result-3
 cast-result-3 c = pos-cast _ (c .before .fits .z) (c .if1 .left)
@@ -29,14 +29,14 @@ returns c = search needs
 returns-2 : tie.Need-returns-2
 returns-2 c = search needs
 
-pub magnitude-spec : {M : Type 1} → statement M
-magnitude-spec =
+pub bits-spec : {M : Type 1} → statement M
+bits-spec =
     tie.close
     (tie.spec
     sub-result
     cast-result
     cast-result-2
-    add-result
+    sub-result-2
     cast-result-3
     cast-result-4
     returns

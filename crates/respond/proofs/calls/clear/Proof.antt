@@ -1,11 +1,11 @@
--- `respond::sealing::clear` is safe and ends: a turn for each byte of the room. Assumes nothing.
+-- `respond::calls::clear` is safe and ends: a turn for each byte of the buffer. Assumes nothing.
 use Prim.Native.Nat.{_-_, _≤_}
 use mathlib.Core.Path.{_≡_}
 use native.Mathlib.Omega.{arith}
 use lib.ListN.{length, length-set}
 use borrow.Author.Needs.{needs}
-use Rattle.respond.proofs.sealing.clear.Statement.{statement}
-use Rattle.respond.proofs.sealing.clear.Tie as tie
+use Rattle.respond.proofs.calls.clear.Statement.{statement}
+use Rattle.respond.proofs.calls.clear.Tie as tie
 
 abbrev Inv-loop : tie.InvT-loop
 Inv-loop room₀ i₀ room i = (i ≤ length room) × (length room ≡ length room₀)
