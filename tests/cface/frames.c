@@ -234,8 +234,34 @@ static void test_read_refusals(void)
     }
 }
 
+/* Byte pointers need no alignment. */
+static void test_unaligned(size_t offset)
+{
+    static uint64_t aligned[3][40];
+    uint8_t *where = (uint8_t *)aligned[0] + offset, *frame = (uint8_t *)aligned[1] + offset;
+    uint8_t *secret = (uint8_t *)aligned[2] + offset;
+    struct cells c;
+    size_t written;
+    begin();
+    memcpy(secret, key, 16);
+    memcpy(secret + 16, nonce, 12);
+    khumbuseal_position_to_bytes(279881000, -9999999, -50000, 1700000000, where);
+    EXPECT("unaligned: write",
+           khumbuseal_frame_write(KHUMBUSEAL_POSITION, secret, 16, secret + 16, 12, where, 16, frame, 48, &written), 0);
+    EXPECT_HEX("unaligned: frame", frame, position_frame);
+    EXPECT("unaligned: read",
+           khumbuseal_frame_read(secret, 16, frame, 48, where, 16, &c.kind, &c.len, &c.taken, &c.lat, &c.lon, &c.alt, &c.time),
+           0);
+    khumbuseal_position_from_bytes(where, &c.lat, &c.lon, &c.alt, &c.time);
+    EXPECT("unaligned: latitude", c.lat, 279881000);
+    EXPECT("unaligned: longitude", c.lon, -9999999);
+}
+
 void test_frames(void)
 {
+    size_t offset;
+    for (offset = 0; offset < 8; offset++)
+        test_unaligned(offset);
     begin();
     unhex("28a5ae10816967ffb03cffff00f15365", plain);
     write_one(KHUMBUSEAL_POSITION, 16, 16, position_frame);

@@ -234,15 +234,47 @@ static void test_join(void)
     join(second, 1, KHUMBUSEAL_BAD_RECORD, 0);
 }
 
+/* Byte pointers need no alignment: every record, key, message and tag at each offset from an aligned address. */
+static void test_unaligned(size_t offset, uint8_t route)
+{
+    static uint64_t aligned[4][40];
+    uint8_t *first = (uint8_t *)aligned[0] + offset, *second = (uint8_t *)aligned[1] + offset;
+    uint8_t *data = (uint8_t *)aligned[2] + offset, *given = (uint8_t *)aligned[3] + offset;
+    unhex(H, given);
+    unhex(X, data);
+    EXPECT("unaligned: start", khumbuseal_hash_start(first, given, 16, &spent), 0);
+    memcpy(second, first, KHUMBUSEAL_RECORD_SIZE);
+    EXPECT("unaligned: blocks", khumbuseal_hash_feed_blocks(first, route, data, 16, &spent), 0);
+    EXPECT("unaligned: piece", khumbuseal_hash_feed_piece(second, route, data + 16, 5, &spent), 0);
+    EXPECT("unaligned: piece", khumbuseal_hash_feed_piece(second, route, data + 21, 11, &spent), 0);
+    EXPECT("unaligned: join", khumbuseal_hash_join(first, second, 1, &spent), 0);
+    EXPECT("unaligned: finish", khumbuseal_hash_finish(first, route, given, &spent), 0);
+    EXPECT_HEX("unaligned: tag", given, POLYVAL_OF_X);
+    EXPECT("unaligned: reset", khumbuseal_hash_reset(first), 0);
+    EXPECT("unaligned: padded", khumbuseal_hash_feed_padded(first, route, data, 32, &spent), 0);
+    EXPECT("unaligned: finish", khumbuseal_hash_finish(first, route, given, &spent), 0);
+    EXPECT_HEX("unaligned: tag", given, POLYVAL_OF_X);
+    EXPECT("unaligned: key_belongs", khumbuseal_hash_key_belongs(first), 1);
+    unhex(H, given);
+    EXPECT("unaligned: ghash_start", khumbuseal_ghash_start(first, given, 16), 0);
+    khumbuseal_ghash_feed_padded(first, data, 32);
+    khumbuseal_ghash_finish(first, second);
+    EXPECT_HEX("unaligned: ghash", second, GHASH_OF_X);
+    EXPECT("unaligned: ghash", khumbuseal_ghash(given, 16, data, 32, second), 0);
+    EXPECT_HEX("unaligned: ghash", second, GHASH_OF_X);
+}
+
 void test_hashing(void)
 {
-    size_t i;
+    size_t i, offset;
     test_start();
     for (i = 0; i < ROUTES; i++) {
         test_appendix_a(routes[i]);
         test_simple_keys(routes[i]);
         test_cost(routes[i]);
         test_refusals(routes[i]);
+        for (offset = 0; offset < 8; offset++)
+            test_unaligned(offset, routes[i]);
     }
     test_key_belongs();
     test_join();

@@ -30,6 +30,13 @@ pub enum Route {
 #[derive(Clone, PartialEq, Eq)]
 pub struct Hash([u8; RECORD_SIZE]);
 
+impl core::fmt::Debug for Hash {
+    /// Shows nothing of the key or of what was fed.
+    fn fmt(&self, f: &mut core::fmt::Formatter<'_>) -> core::fmt::Result {
+        f.debug_struct("Hash").finish_non_exhaustive()
+    }
+}
+
 type Feed = unsafe extern "C" fn(*mut u8, u8, *const u8, usize, *mut u64) -> u8;
 
 impl Hash {
@@ -110,6 +117,13 @@ impl Hash {
 /// A GHASH (NIST SP 800-38D) under way. It holds its key in the clear.
 #[derive(Clone, PartialEq, Eq)]
 pub struct Ghash([u8; GHASH_RECORD_SIZE]);
+
+impl core::fmt::Debug for Ghash {
+    /// Shows nothing of the key or of what was fed.
+    fn fmt(&self, f: &mut core::fmt::Formatter<'_>) -> core::fmt::Result {
+        f.debug_struct("Ghash").finish_non_exhaustive()
+    }
+}
 
 impl Ghash {
     /// Starts a GHASH under a key of 16 bytes. Refuses with 1.

@@ -93,10 +93,8 @@ impl core::error::Error for Refusal {}
 /// Answer 0 as `Ok`, any other as its refusal.
 pub(crate) fn done(answer: u8) -> Result<(), Refusal> {
     match Refusal::from_number(answer) {
-        None => {
-            debug_assert_eq!(answer, 0, "the library answers 0 to 14");
-            Ok(())
-        }
         Some(refusal) => Err(refusal),
+        None if answer == 0 => Ok(()),
+        None => unreachable!("no contract of the library allows this answer"),
     }
 }

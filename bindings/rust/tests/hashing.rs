@@ -102,6 +102,7 @@ fn a_record_that_claims_too_much() {
 fn whether_the_stored_key_belongs() {
     let right = *start(&h()).as_bytes();
     assert!(Hash::from_bytes(right).key_belongs());
+    assert_eq!(format!("{:?}", Hash::from_bytes(right)), "Hash { .. }");
     for at in 0..RECORD_SIZE {
         let mut bytes = right;
         bytes[at] ^= 4;
