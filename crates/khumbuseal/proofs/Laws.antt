@@ -4,28 +4,35 @@ use mathlib.Core.Path.{_≡_, refl, sym, ap, _∙_}
 use mathlib.Core.Bool.{Bool, true, false, cond}
 use mathlib.Core.List.{List, _++_, append-nil}
 use native.Mathlib.Omega.{arith}
-use mir.Val.{boolByte}
+use mir.Facts.{toZ-ofZ}
+use mir.Syntax.{w32}
+use mir.Val.{SFits, toZ, ofZ}
 use borrow.Author.Tests.{eq-eqb, ne-eqb}
 use lib.Dec.{eqb}
+use lib.IntN.{ℤ}
 use lib.ListN.{length, drop, length-append, length-drop, drop-of-length-le}
 use Rattle.answer.specs.Answers.{done}
 use Rattle.hash.specs.declared.Hash.{Hash}
 use Rattle.hash.specs.declared.Fed.{Fed}
 use Rattle.hash.specs.Calls.{recordAnswer, resetOf}
 use Rattle.join.specs.declared.Joined.{Joined}
+use Rattle.frame.specs.declared.position.Position.{Position}
 use Rattle.ghash.specs.declared.parts.Started.{Started}
 use Rattle.message.specs.Message.{Values}
 use Rattle.place.specs.Put.{Puts}
 use Rattle.place.proofs.Written.{then, put-wrote}
 use Rattle.record.specs.Bytes.{recordBytes}
 use Rattle.khumbuseal.specs.declared.frames.MessageCells.{MessageCells}
-use Rattle.khumbuseal.specs.Hashing.{stored, Stores, Joins}
+use Rattle.khumbuseal.specs.Cells.{stored, yesOrNo}
+use Rattle.khumbuseal.specs.Hashing.{Stores, Joins}
 use Rattle.khumbuseal.specs.Ghashing.{ghashBytes, Begins}
 
--- a yes or no as a number
-pub as-number : (t : Bool) → boolByte t ≡ cond t 1 0
-as-number true = refl
-as-number false = refl
+-- a yes or no
+pub yes : (t : Bool) → t ≡ true → 1 ≡ yesOrNo t
+yes t e = sym (ap yesOrNo e)
+
+pub no : (t : Bool) → t ≡ false → 0 ≡ yesOrNo t
+no t e = sym (ap yesOrNo e)
 
 -- a cell is written on answer 0 alone
 pub stored-done : (answer : ℕ) (new old : List ℕ) → answer ≡ done → new ≡ stored answer new old
@@ -82,3 +89,10 @@ two-pieces a b zeros o₁ o₂ n₁ n₂ la lb lz p q =
 abbrev pub values : MessageCells → Values
 values v =
     record { answer = v .answer; kind = v .kind; lat = v .lat; lon = v .lon; alt = v .alt; time = v .time; len = v .len; taken = v .taken }
+
+abbrev pub position : (lat lon alt : ℤ) (time : ℕ) → Position
+position lat lon alt time = record { lat = lat; lon = lon; alt = alt; time = time }
+
+-- signed fields are handed over as they are: each is written as 32 bits and read again
+pub as-given : {a o h : ℤ} {t : ℕ} → SFits w32 a → SFits w32 o → SFits w32 h → position (toZ w32 (ofZ w32 a)) (toZ w32 (ofZ w32 o)) (toZ w32 (ofZ w32 h)) t ≡ position a o h t
+as-given {t = t} p q r = λ i. position (toZ-ofZ p i) (toZ-ofZ q i) (toZ-ofZ r i) t

@@ -1,2 +1,3 @@
 -- Laws of the crate khumbuseal.
 pub mod Laws
+pub mod Unique

@@ -5,7 +5,7 @@ use mathlib.Core.List.{List, _++_}
 use Rattle.ghash.specs.declared.parts.Ghash.{Ghash}
 use Rattle.ghash.specs.declared.parts.Started.{Started}
 use Rattle.record.specs.Bytes.{elementBytes, elementAt}
-use Rattle.khumbuseal.specs.Hashing.{stored}
+use Rattle.khumbuseal.specs.Cells.{stored}
 
 -- a GHASH record as bytes: POLYVAL's key for GHASH's, then the sum
 abbrev pub ghashBytes : Ghash → List ℕ

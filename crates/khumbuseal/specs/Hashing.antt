@@ -4,20 +4,16 @@ use mathlib.Core.Path.{_≡_}
 use mathlib.Core.Bool.{cond}
 use mathlib.Core.List.{List}
 use lib.Dec.{eqb}
-use Rattle.answer.specs.Answers.{done}
 use Rattle.polyval.specs.declared.route.Route.{Route}
 use Rattle.polyval.specs.declared.route.Route.the-variants.{Wide, Narrow, Rf}
 use Rattle.hash.specs.declared.Fed.{Fed}
 use Rattle.join.specs.declared.Joined.{Joined}
 use Rattle.record.specs.Bytes.{recordBytes}
+use Rattle.khumbuseal.specs.Cells.{stored}
 
 -- the route is a number: 1 narrow, 2 R/F, any other wide
 abbrev pub routeOf : ℕ → Route
 routeOf n = cond (eqb n 1) Narrow (cond (eqb n 2) Rf Wide)
-
--- a record is rewritten on answer 0 alone
-abbrev pub stored : (answer : ℕ) (new old : List ℕ) → List ℕ
-stored answer new old = cond (eqb answer done) new old
 
 -- a call that makes a record: its result, the record's bytes after it, and the multiplies
 pub record Stores (made : Fed) (before : List ℕ) (r : ℕ) (after : List ℕ) (multiplies : ℕ) : Type 0 where

@@ -4,7 +4,6 @@ use frame::kind;
 use frame::position::Position;
 use message::Message;
 ghost use mathlib.Core.Path.{_≡_};
-ghost use mathlib.Core.Bool.{cond};
 ghost use lib.IntN.{pos};
 ghost use lib.ListN.{length};
 ghost use Rattle.frame.specs.Front.{frontOf};
@@ -13,6 +12,7 @@ ghost use Rattle.frame.specs.Scan.{scanOf};
 ghost use Rattle.message.specs.Message.{valuesOf};
 ghost use Rattle.message.specs.Write.{Writes};
 ghost use Rattle.message.specs.Read.{readOf, readOut};
+ghost use Rattle.khumbuseal.specs.Cells.{yesOrNo};
 ghost use Rattle.khumbuseal.specs.Frames.{frontCells, messageCells};
 
 // Writes a frame of this kind, sealed, to the front of out, and how many bytes it has.
@@ -163,6 +163,18 @@ pub extern "C" fn khumbuseal_scan(log: &[u8], frames: &mut u64, stop: &mut u8) -
     part.len()
 }
 
+// The position with these fields.
+fn position_at(a: i32, o: i32, h: i32, t: u32) -> Position
+    ensures { λ r. ⌜ r ≡ record { lat = a; lon = o; alt = h; time = t } ⌝ }
+{
+    Position {
+        lat: a,
+        lon: o,
+        alt: h,
+        time: t,
+    }
+}
+
 // The sixteen bytes of a position, in range or not.
 #[no_mangle]
 pub extern "C" fn khumbuseal_position_to_bytes(
@@ -174,12 +186,7 @@ pub extern "C" fn khumbuseal_position_to_bytes(
 )
     ensures { λ _. ⌜ now (bytes .exit) ≡ positionBytes (record { lat = lat; lon = lon; alt = alt; time = time }) ⌝ }
 {
-    let spelled = Position {
-        lat,
-        lon,
-        alt,
-        time,
-    }.to_bytes();
+    let spelled = position_at(lat, lon, alt, time).to_bytes();
     *bytes = spelled;
 }
 
@@ -207,13 +214,11 @@ pub extern "C" fn khumbuseal_position_from_bytes(
 // Whether a frame may hold this position: 1 or 0. Its time may be any.
 #[no_mangle]
 pub extern "C" fn khumbuseal_position_is_in_range(lat: i32, lon: i32, alt: i32) -> u8
-    ensures { λ r. ⌜ r ≡ cond (inRange (record { lat = lat; lon = lon; alt = alt; time = 0 })) 1 0 ⌝ }
+    ensures { λ r. ⌜ r ≡ yesOrNo (inRange (record { lat = lat; lon = lon; alt = alt; time = 0 })) ⌝ }
 {
-    let p = Position {
-        lat,
-        lon,
-        alt,
-        time: 0,
-    };
-    p.is_in_range() as u8
+    if position_at(lat, lon, alt, 0).is_in_range() {
+        1
+    } else {
+        0
+    }
 }

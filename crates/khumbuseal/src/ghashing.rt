@@ -43,10 +43,10 @@ fn decoded(b: [u8; GHASH_SIZE]) -> Ghash
 pub extern "C" fn khumbuseal_ghash(key: &[u8], s: &[u8], tag: &mut [u8; 16]) -> u8
     ensures { λ r. ⌜ hashedOf (now (key .entry)) (now (s .entry)) ≡ record { answer = r; tag = now (tag .exit) } ⌝ }
 {
-    let made = ghash::ghash(key, s);
-    let bytes = made.tag;
+    let hashed = ghash::ghash(key, s);
+    let bytes = hashed.tag;
     *tag = bytes;
-    made.answer
+    hashed.answer
 }
 
 // Makes a record under a key of 16 bytes.
@@ -54,12 +54,12 @@ pub extern "C" fn khumbuseal_ghash(key: &[u8], s: &[u8], tag: &mut [u8; 16]) -> 
 pub extern "C" fn khumbuseal_ghash_start(cell: &mut [u8; GHASH_SIZE], key: &[u8]) -> u8
     ensures { λ r. ⌜ Begins (startOf (now (key .entry))) (now (cell .entry)) r (now (cell .exit)) ⌝ }
 {
-    let made = Ghash::start(key);
-    if made.answer == answer::DONE {
-        let bytes = encoded(made.ghash);
+    let started = Ghash::start(key);
+    if started.answer == answer::DONE {
+        let bytes = encoded(started.ghash);
         *cell = bytes;
     }
-    made.answer
+    started.answer
 }
 
 // Feeds blocks of which the last may be short, and is filled with zeros.

@@ -4,20 +4,25 @@ use hash::Hash;
 use polyval::route::Route;
 use record::RECORD_SIZE;
 ghost use mathlib.Core.Path.{_≡_};
-ghost use mathlib.Core.Bool.{cond};
 ghost use Rattle.polyval.specs.Key.{checkOf};
 ghost use Rattle.hash.specs.Calls.{startOf, wholeOf, paddedOf, pieceOf, finishOf, resetOf};
 ghost use Rattle.join.specs.Join.{joinOf};
 ghost use Rattle.record.specs.Bytes.{recordOf, recordBytes};
-ghost use Rattle.khumbuseal.specs.Hashing.{routeOf, stored, Stores, Joins};
+ghost use Rattle.khumbuseal.specs.Cells.{yesOrNo, stored};
+ghost use Rattle.khumbuseal.specs.Hashing.{routeOf, Stores, Joins};
 
-// The route of a number: 1 narrow, 2 R/F, any other wide.
+// The numbers of two routes; any other is the wide one.
+const NARROW: u8 = 1;
+
+const RF: u8 = 2;
+
+// The route of a number.
 fn route_of(number: u8) -> Route
     ensures { λ r. ⌜ r ≡ routeOf number ⌝ }
 {
     match number {
-        1 => Route::Narrow,
-        2 => Route::Rf,
+        NARROW => Route::Narrow,
+        RF => Route::Rf,
         _ => Route::Wide,
     }
 }
@@ -41,10 +46,10 @@ pub extern "C" fn khumbuseal_hash_start(
 ) -> u8
     ensures { λ r. ⌜ Stores (startOf (now (key .entry))) (now (cell .entry)) r (now (cell .exit)) (now (multiplies .exit)) ⌝ }
 {
-    let made = Hash::start(key);
-    *multiplies = made.multiplies;
-    store(made.answer, made.hash, cell);
-    made.answer
+    let started = Hash::start(key);
+    *multiplies = started.multiplies;
+    store(started.answer, started.hash, cell);
+    started.answer
 }
 
 // Feeds whole blocks.
@@ -57,10 +62,10 @@ pub extern "C" fn khumbuseal_hash_feed_blocks(
 ) -> u8
     ensures { λ r. ⌜ Stores (wholeOf (routeOf route) (recordOf (now (cell .entry))) (now (s .entry))) (now (cell .entry)) r (now (cell .exit)) (now (multiplies .exit)) ⌝ }
 {
-    let made = record::decode(*cell).feed_blocks(route_of(route), s);
-    *multiplies = made.multiplies;
-    store(made.answer, made.hash, cell);
-    made.answer
+    let whole = record::decode(*cell).feed_blocks(route_of(route), s);
+    *multiplies = whole.multiplies;
+    store(whole.answer, whole.hash, cell);
+    whole.answer
 }
 
 // Feeds blocks of which the last may be short, and is filled with zeros.
@@ -73,10 +78,10 @@ pub extern "C" fn khumbuseal_hash_feed_padded(
 ) -> u8
     ensures { λ r. ⌜ Stores (paddedOf (routeOf route) (recordOf (now (cell .entry))) (now (s .entry))) (now (cell .entry)) r (now (cell .exit)) (now (multiplies .exit)) ⌝ }
 {
-    let made = record::decode(*cell).feed_padded(route_of(route), s);
-    *multiplies = made.multiplies;
-    store(made.answer, made.hash, cell);
-    made.answer
+    let padded = record::decode(*cell).feed_padded(route_of(route), s);
+    *multiplies = padded.multiplies;
+    store(padded.answer, padded.hash, cell);
+    padded.answer
 }
 
 // Feeds any bytes: what does not fill a block waits in the record.
@@ -89,10 +94,10 @@ pub extern "C" fn khumbuseal_hash_feed_piece(
 ) -> u8
     ensures { λ r. ⌜ Stores (pieceOf (routeOf route) (recordOf (now (cell .entry))) (now (s .entry))) (now (cell .entry)) r (now (cell .exit)) (now (multiplies .exit)) ⌝ }
 {
-    let made = record::decode(*cell).feed_piece(route_of(route), s);
-    *multiplies = made.multiplies;
-    store(made.answer, made.hash, cell);
-    made.answer
+    let piece = record::decode(*cell).feed_piece(route_of(route), s);
+    *multiplies = piece.multiplies;
+    store(piece.answer, piece.hash, cell);
+    piece.answer
 }
 
 // The tag of all that was fed. The record is as it was.
@@ -105,11 +110,11 @@ pub extern "C" fn khumbuseal_hash_finish(
 ) -> u8
     ensures { λ r. ⌜ finishOf (routeOf route) (recordOf (now (cell .entry))) ≡ record { answer = r; tag = now (tag .exit); multiplies = now (multiplies .exit) } ⌝ }
 {
-    let made = record::decode(*cell).finish(route_of(route));
-    let bytes = made.tag;
+    let finished = record::decode(*cell).finish(route_of(route));
+    let bytes = finished.tag;
     *tag = bytes;
-    *multiplies = made.multiplies;
-    made.answer
+    *multiplies = finished.multiplies;
+    finished.answer
 }
 
 // The same key, with nothing absorbed and nothing pending. It spends nothing.
@@ -117,9 +122,9 @@ pub extern "C" fn khumbuseal_hash_finish(
 pub extern "C" fn khumbuseal_hash_reset(cell: &mut [u8; RECORD_SIZE]) -> u8
     ensures { λ r. ⌜ Stores (resetOf (recordOf (now (cell .entry)))) (now (cell .entry)) r (now (cell .exit)) 0 ⌝ }
 {
-    let made = record::decode(*cell).reset();
-    store(made.answer, made.hash, cell);
-    made.answer
+    let cleared = record::decode(*cell).reset();
+    store(cleared.answer, cleared.hash, cell);
+    cleared.answer
 }
 
 // The first record becomes that of both parts, of which the second has so many blocks.
@@ -132,17 +137,20 @@ pub extern "C" fn khumbuseal_hash_join(
 ) -> u8
     ensures { λ r. ⌜ Joins (joinOf (recordOf (now (first .entry))) (recordOf (now (second .entry))) blocks) (now (first .entry)) r (now (first .exit)) (now (dots .exit)) ⌝ }
 {
-    let made = join::join(record::decode(*first), record::decode(*second), blocks);
-    *dots = made.dots;
-    store(made.answer, made.hash, first);
-    made.answer
+    let joined = join::join(record::decode(*first), record::decode(*second), blocks);
+    *dots = joined.dots;
+    store(joined.answer, joined.hash, first);
+    joined.answer
 }
 
 // Whether every stored power and D value belongs to the stored H: 1 or 0.
 #[no_mangle]
 pub extern "C" fn khumbuseal_hash_key_belongs(cell: &[u8; RECORD_SIZE]) -> u8
-    ensures { λ r. ⌜ r ≡ cond (checkOf (recordOf (now (cell .entry)) .key)) 1 0 ⌝ }
+    ensures { λ r. ⌜ r ≡ yesOrNo (checkOf (recordOf (now (cell .entry)) .key)) ⌝ }
 {
-    let held = record::decode(*cell);
-    held.key.check() as u8
+    if record::decode(*cell).key.check() {
+        1
+    } else {
+        0
+    }
 }

@@ -1,17 +1,13 @@
 -- `khumbuseal::khumbuseal_position_to_bytes` meets its contract. Assumes nothing.
-use mathlib.Core.Path.{_∙_}
-use mir.Facts.{toZ-ofZ}
-use mir.Syntax.{w32}
+use mathlib.Core.Path.{ap, _∙_}
 use borrow.Author.Needs.{needs}
 use Rattle.frame.specs.Position.{positionBytes}
+use Rattle.khumbuseal.proofs.Laws.{as-given}
 use Rattle.khumbuseal.proofs.frames.khumbuseal_position_to_bytes.Statement.{statement}
 use Rattle.khumbuseal.proofs.frames.khumbuseal_position_to_bytes.Tie as tie
 
 returns : tie.Need-returns
-returns c =
-    let a = c .before .args in
-    c .to-bytes .ensures
-    ∙ (λ i. positionBytes (record { lat = toZ-ofZ {w = w32} {z = a .lat} (search needs) i; lon = toZ-ofZ {w = w32} {z = a .lon} (search needs) i; alt = toZ-ofZ {w = w32} {z = a .alt} (search needs) i; time = a .time }))
+returns c = c .to-bytes .ensures ∙ ap positionBytes (c .before .position-at .ensures ∙ as-given (search needs) (search needs) (search needs))
 
 pub khumbuseal-position-to-bytes-spec : {M : Type 1} → statement M
-khumbuseal-position-to-bytes-spec = tie.close (tie.spec (λ c κs. search needs) returns)
+khumbuseal-position-to-bytes-spec = tie.close (tie.spec (λ c κs. search needs) (λ c κs. search needs) returns)
