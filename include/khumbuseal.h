@@ -1,9 +1,10 @@
 /* Khumbuseal for C and C++: hashing (POLYVAL, GHASH), sealing (AES-GCM-SIV, RFC 8452), message frames.
 
-   Link with libkhumbuseal.a (`rt staticlib khumbuseal`), which is made for x86-64 Linux. It calls nothing but memcpy,
-   allocates nothing and keeps nothing between calls: two threads may call it at once on different memory. Each function is
-   proved to meet a contract that fixes its result and every byte it may write (docs/PROMISES.md, khumbuseal);
-   that this header declares the same functions is not proved (docs/TRUST.md).
+   Link with libkhumbuseal.a (`rt staticlib khumbuseal`), which is made for x86-64 Linux. It calls nothing but C's
+   memcpy, allocates nothing and keeps nothing between calls: two threads may call it at once on different memory.
+   docs/BENCH.md says how much stack each call needs, under 4 KiB. Each function is proved to meet a contract that
+   fixes its result and every byte it may write (docs/PROMISES.md, khumbuseal); that this header declares the same
+   functions is not proved (docs/TRUST.md).
 
    ANSWERS. Where a function answers, its result is 0 (done) or the number of the first reason to refuse, in the
    order that its comment gives. On a refusal every buffer and record that was lent is as it was before the call,
