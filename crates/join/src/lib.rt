@@ -1,7 +1,6 @@
 // Joining the hashes of two parts of a message, without their bytes.
 pub mod halving;
 
-use field::FieldElement;
 use hash::Hash;
 use polyval::key;
 ghost use mathlib.Core.Path.{_≡_};

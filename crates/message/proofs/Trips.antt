@@ -12,7 +12,6 @@ use Rattle.gf2.specs.Bytes.{bytesOf}
 use Rattle.gf2.proofs.Bytes.{Bytes, cells-part, byte-at}
 use Rattle.answer.specs.First.{_then_}
 use Rattle.answer.proofs.First.{then-passed, both-done}
-use Rattle.aead.specs.Calls as calls
 use Rattle.aead.specs.Calls.{written}
 use Rattle.aead.proofs.Done.{Openable, open-done, openable}
 use Rattle.siv.specs.Siv.{sealed, opened, authentic, openAnswer}

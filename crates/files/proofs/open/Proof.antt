@@ -3,8 +3,6 @@ use borrow.Author.Needs.{needs}
 use Rattle.files.proofs.Answers.{not-negative}
 use Rattle.files.proofs.open.Statement.{statement}
 use Rattle.files.proofs.open.Tie as tie
-use Rattle.files.proofs.open.Reads as reads
-use Rattle.files.proofs.open.Lts as lts
 
 returns-2 : tie.Need-returns-2
 returns-2 c = not-negative _ (c .if1 .left)

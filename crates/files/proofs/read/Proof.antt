@@ -3,8 +3,6 @@ use borrow.Author.Needs.{needs}
 use Rattle.files.proofs.Answers.{succeeded}
 use Rattle.files.proofs.read.Statement.{statement}
 use Rattle.files.proofs.read.Tie as tie
-use Rattle.files.proofs.read.Reads as reads
-use Rattle.files.proofs.read.Lts as lts
 
 returns-2 : tie.Need-returns-2
 returns-2 c = succeeded _ _ (c .count .ensures .0)

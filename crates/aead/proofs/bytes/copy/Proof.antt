@@ -8,9 +8,6 @@ use lib.ListN.{length, take, drop}
 use Rattle.aead.proofs.Copy.{copy-turn, copy-reached}
 use Rattle.aead.proofs.bytes.copy.Statement.{statement}
 use Rattle.aead.proofs.bytes.copy.Tie as tie
-use Rattle.aead.proofs.bytes.copy.Reads as reads
-use Rattle.aead.proofs.bytes.copy.Lts as lts
-use Rattle.aead.proofs.bytes.shorter.Reads as shorter-reads
 
 abbrev Inv-loop : tie.InvT-loop
 Inv-loop src dst₀ n i₀ dst i = (i ≤ n) × (dst ≡ take i src ++ drop i dst₀) × (length dst ≡ length dst₀)

@@ -11,8 +11,6 @@ use Rattle.aead.specs.Bytes.{sameBytes}
 use Rattle.aead.proofs.Same.{start, turn}
 use Rattle.aead.proofs.bytes.same_tag.Statement.{statement}
 use Rattle.aead.proofs.bytes.same_tag.Tie as tie
-use Rattle.aead.proofs.bytes.same_tag.Reads as reads
-use Rattle.aead.proofs.bytes.same_tag.Lts as lts
 
 abbrev Inv-loop : tie.InvT-loop
 Inv-loop a b differences₀ i₀ differences i = (i ≤ 16) × (length a ≡ 16) × (length b ≡ 16) × (eqb differences 0 ≡ sameBytes (take i a) (take i b))

@@ -9,9 +9,6 @@ use Rattle.aead.specs.Bytes.{xorBytes}
 use Rattle.aead.proofs.Xor.{xor-nil, xor-turn, xor-reached}
 use Rattle.aead.proofs.bytes.xor_into.Statement.{statement}
 use Rattle.aead.proofs.bytes.xor_into.Tie as tie
-use Rattle.aead.proofs.bytes.xor_into.Reads as reads
-use Rattle.aead.proofs.bytes.xor_into.Lts as lts
-use Rattle.aead.proofs.bytes.shorter.Reads as shorter-reads
 
 abbrev Inv-loop : tie.InvT-loop
 Inv-loop pad text₀ n i₀ text i = (i ≤ n) × (text ≡ xorBytes text₀ (take i pad)) × (length text ≡ length text₀)

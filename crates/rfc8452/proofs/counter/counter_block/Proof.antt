@@ -4,8 +4,6 @@ use Rattle.rfc8452.specs.Counter.{counterBlock}
 use borrow.Author.Needs.{needs}
 use Rattle.rfc8452.proofs.counter.counter_block.Statement.{statement}
 use Rattle.rfc8452.proofs.counter.counter_block.Tie as tie
-use Rattle.rfc8452.proofs.counter.counter_block.Reads as reads
-use Rattle.rfc8452.proofs.counter.counter_block.Lts as lts
 
 returns : tie.Need-returns
 unfolding counterBlock

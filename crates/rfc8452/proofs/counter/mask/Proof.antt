@@ -12,11 +12,6 @@ use Rattle.rfc8452.specs.Counter.{nextCounter}
 use borrow.Author.Needs.{needs}
 use Rattle.rfc8452.proofs.counter.mask.Statement.{statement}
 use Rattle.rfc8452.proofs.counter.mask.Tie as tie
-use Rattle.rfc8452.proofs.counter.mask.Reads as reads
-use Rattle.rfc8452.proofs.counter.mask.Lts as lts
-use Rattle.aead.proofs.bytes.xor_into.Reads as xor-into-reads
-use Rattle.aead.proofs.cipher.Cipher.encrypt.Reads as encrypt-reads
-use Rattle.rfc8452.proofs.counter.next_counter.Reads as next-counter-reads
 
 abbrev Inv-loop : tie.InvT-loop
 Inv-loop cipher text₀ counter₀ at₀ text counter at =

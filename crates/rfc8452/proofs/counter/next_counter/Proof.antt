@@ -5,9 +5,6 @@ use Rattle.rfc8452.proofs.Counting.{counted}
 use borrow.Author.Needs.{needs}
 use Rattle.rfc8452.proofs.counter.next_counter.Statement.{statement}
 use Rattle.rfc8452.proofs.counter.next_counter.Tie as tie
-use Rattle.rfc8452.proofs.counter.next_counter.Reads as reads
-use Rattle.rfc8452.proofs.counter.next_counter.Lts as lts
-use Rattle.std.proofs.num.wrapping_add_u32.Reads as wrapping-add-u32-reads
 
 returns : tie.Need-returns
 returns c =

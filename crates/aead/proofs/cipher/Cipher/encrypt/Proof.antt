@@ -3,10 +3,6 @@ use Rattle.aead.specs.Cipher.{encrypted}
 use borrow.Author.Needs.{needs}
 use Rattle.aead.proofs.cipher.Cipher.encrypt.Statement.{statement}
 use Rattle.aead.proofs.cipher.Cipher.encrypt.Tie as tie
-use Rattle.aead.proofs.cipher.Cipher.encrypt.Reads as reads
-use Rattle.aead.proofs.cipher.Cipher.encrypt.Lts as lts
-use Rattle.aes.proofs.encrypt128.Reads as encrypt128-reads
-use Rattle.aes.proofs.encrypt256.Reads as encrypt256-reads
 
 encrypt256-requires : tie.Need-encrypt256-requires
 encrypt256-requires c κs = search needs

@@ -4,9 +4,6 @@ use lib.ListN.{replicate}
 use borrow.Author.Needs.{needs}
 use Rattle.aead.proofs.cipher.Cipher.long_key.Statement.{statement}
 use Rattle.aead.proofs.cipher.Cipher.long_key.Tie as tie
-use Rattle.aead.proofs.cipher.Cipher.long_key.Reads as reads
-use Rattle.aead.proofs.cipher.Cipher.long_key.Lts as lts
-use Rattle.aes.proofs.expand256.Reads as expand256-reads
 
 expand256-requires : tie.Need-expand256-requires
 expand256-requires c κs = search needs

@@ -4,9 +4,6 @@ use lib.ListN.{replicate}
 use borrow.Author.Needs.{needs}
 use Rattle.aead.proofs.cipher.Cipher.short_key.Statement.{statement}
 use Rattle.aead.proofs.cipher.Cipher.short_key.Tie as tie
-use Rattle.aead.proofs.cipher.Cipher.short_key.Reads as reads
-use Rattle.aead.proofs.cipher.Cipher.short_key.Lts as lts
-use Rattle.aes.proofs.expand128.Reads as expand128-reads
 
 expand128-requires : tie.Need-expand128-requires
 expand128-requires c κs = search needs

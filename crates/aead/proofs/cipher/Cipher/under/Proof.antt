@@ -7,11 +7,6 @@ use Rattle.aead.proofs.Copy.{copied-fills}
 use borrow.Author.Needs.{needs}
 use Rattle.aead.proofs.cipher.Cipher.under.Statement.{statement}
 use Rattle.aead.proofs.cipher.Cipher.under.Tie as tie
-use Rattle.aead.proofs.cipher.Cipher.under.Reads as reads
-use Rattle.aead.proofs.cipher.Cipher.under.Lts as lts
-use Rattle.aead.proofs.bytes.copy.Reads as copy-reads
-use Rattle.aead.proofs.cipher.Cipher.long_key.Reads as long-key-reads
-use Rattle.aead.proofs.cipher.Cipher.short_key.Reads as short-key-reads
 
 slice-aggregate-copy : tie.Need-slice-aggregate-copy
 slice-aggregate-copy c = search needs
