@@ -5,6 +5,7 @@ use aes::Schedule256;
 ghost use mathlib.Core.Path.{_≡_};
 ghost use Rattle.aead.specs.Cipher.{encrypted, shortCipher, longCipher, cipherUnder};
 
+// A key's schedule. `long` says which of the two counts; `short_key` and `long_key` leave the other zero.
 pub struct Cipher {
     pub long: bool,
     pub schedule128: Schedule128,
@@ -48,6 +49,7 @@ impl Cipher {
         Cipher::short_key(short)
     }
 
+    // The block under the schedule that counts.
     pub fn encrypt(self, block: [u8; 16]) -> [u8; 16]
         ensures { λ r. ⌜ r ≡ encrypted self block ⌝ }
     {

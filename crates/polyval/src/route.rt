@@ -21,6 +21,7 @@ pub enum Route {
     Rf,
 }
 
+// By 64-bit limbs, one block after the other. H alone is read, and nothing is counted.
 fn wide(key: ExpandedKey, held: Counted, s: &[u8]) -> Counted
     ensures { λ r. ⌜ r ≡ absorbOn Wide alone key held (blocks (now (s .entry))) ⌝ }
 {
@@ -31,6 +32,7 @@ fn wide(key: ExpandedKey, held: Counted, s: &[u8]) -> Counted
     }
 }
 
+// The same by 32-bit limbs.
 fn narrow(key: ExpandedKey, held: Counted, s: &[u8]) -> Counted
     ensures { λ r. ⌜ r ≡ absorbOn Narrow alone key held (blocks (now (s .entry))) ⌝ }
 {
