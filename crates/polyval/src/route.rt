@@ -6,8 +6,6 @@ use crate::rf;
 use crate::soft;
 use field::rf::Counted;
 ghost use mathlib.Core.Path.{_≡_};
-ghost use Rattle.field.specs.Element.{value};
-ghost use Rattle.field.specs.Rf.{counted};
 ghost use Rattle.polyval.specs.declared.route.Route.the-variants.{Wide, Narrow};
 ghost use Rattle.polyval.specs.Blocks.{blocks};
 ghost use Rattle.polyval.specs.Formulas.{inGroups, alone};
