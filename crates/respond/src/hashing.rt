@@ -7,6 +7,7 @@ use hash::Fed;
 use hash::Finished;
 use hash::Hash;
 use join::Joined;
+use polyval::block;
 use polyval::key::ExpandedKey;
 use polyval::route::Route;
 
@@ -120,12 +121,21 @@ fn join_two(arena: &[u8], slots: &[u64]) -> Joined {
     )
 }
 
+// A request on a key.
+fn on_key(code: usize, s: &[u8], space: &mut [u8]) -> Said {
+    match code {
+        requests::EXPAND => expand(block::block_of(s), space),
+        requests::CHECK => check(stored(s)),
+        _ => fed(Hash::start(s), space),
+    }
+}
+
 // Any of these requests. Reset is said like a feed, and its form leaves the count away.
 pub(crate) fn answer(code: usize, arena: &[u8], slots: &[u64], space: &mut [u8]) -> Said {
     match code {
-        requests::EXPAND => expand(words::element(arena, slots, 0), space),
-        requests::CHECK => check(stored(words::bytes(arena, slots, 0))),
-        requests::START => fed(Hash::start(words::bytes(arena, slots, 0)), space),
+        requests::EXPAND | requests::CHECK | requests::START => {
+            on_key(code, words::bytes(arena, slots, 0), space)
+        }
         requests::RESET => fed(record_at(arena, slots, 0).reset(), space),
         requests::JOIN => joined(join_two(arena, slots), space),
         _ => routed(code, arena, slots, space),
