@@ -1,7 +1,13 @@
 //! This library, by its C face (include/khumbuseal.h).
 
 use super::{Contender, KEYS, NONCE, contender};
+use ffi::*;
 use std::hint::black_box;
+
+// The Rust binding's declarations, of which the clock needs a few.
+#[allow(dead_code)]
+#[path = "../../../bindings/rust/src/ffi.rs"]
+mod ffi;
 
 const RECORD_SIZE: usize = 168;
 const TAG_SIZE: usize = 16;
@@ -23,52 +29,6 @@ type Sealing = unsafe extern "C" fn(
     out: *mut u8,
     out_len: usize,
 ) -> u8;
-
-unsafe extern "C" {
-    fn khumbuseal_hash_start(
-        record: *mut u8,
-        key: *const u8,
-        key_len: usize,
-        multiplies: *mut u64,
-    ) -> u8;
-    fn khumbuseal_hash_feed_blocks(
-        record: *mut u8,
-        route: u8,
-        data: *const u8,
-        data_len: usize,
-        multiplies: *mut u64,
-    ) -> u8;
-    fn khumbuseal_hash_finish(
-        record: *const u8,
-        route: u8,
-        tag: *mut u8,
-        multiplies: *mut u64,
-    ) -> u8;
-    fn khumbuseal_seal(
-        key: *const u8,
-        key_len: usize,
-        nonce: *const u8,
-        nonce_len: usize,
-        ad: *const u8,
-        ad_len: usize,
-        plaintext: *const u8,
-        plaintext_len: usize,
-        out: *mut u8,
-        out_len: usize,
-    ) -> u8;
-    fn khumbuseal_open(
-        key: *const u8,
-        key_len: usize,
-        nonce: *const u8,
-        nonce_len: usize,
-        ad: *const u8,
-        ad_len: usize,
-        sealed: *const u8,
-        sealed_len: usize,
-        out: *mut u8,
-        out_len: usize,
-    ) -> u8;
-}
 
 /// All of the data in one call under one key, the key's expansion and the finish included.
 fn hash(route: u8, key: &[u8], data: &[u8]) -> [u8; TAG_SIZE] {
