@@ -1,0 +1,2 @@
+-- What the worked example starts from.
+pub mod Example
