@@ -14,9 +14,9 @@ use Rattle.fips197.specs.Aes.{aes}
 use Rattle.fips197.proofs.Length.{cipher-length}
 use Rattle.aes.proofs.Whole.{whole128, whole256}
 use Rattle.aead.specs.declared.cipher.Cipher.{Cipher}
-use Rattle.aead.specs.Bytes.{copied}
+use Rattle.octets.specs.Strings.{copied}
 use Rattle.aead.specs.Cipher.{encrypted, shortCipher, longCipher, cipherUnder}
-use Rattle.aead.proofs.Copy.{copied-fills}
+use Rattle.octets.proofs.Copies.{copied-fills}
 
 pub encrypted-length : (c : Cipher) (block : List ℕ) → length (encrypted c block) ≡ 16
 unfolding encrypted

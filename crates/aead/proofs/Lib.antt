@@ -1,13 +1,3 @@
--- Laws of byte strings, of the key stream, of sealing in any mode, and of the refusals.
-pub mod Xor
-pub mod Copy
-pub mod Same
+-- The record of a key is FIPS 197's cipher under it; and that no contract leaves a choice.
 pub mod Ciphers
-pub mod Stream
-pub mod Modes
-pub mod Refusals
-pub mod Done
-pub mod Trips
-pub mod Written
 pub mod Unique
-mod Cases

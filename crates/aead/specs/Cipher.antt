@@ -6,7 +6,7 @@ use lib.Dec.{eqb}
 use lib.ListN.{length, replicate}
 use Rattle.fips197.specs.Cipher.{cipher}
 use Rattle.fips197.specs.KeyExpansion.{keyExpansion}
-use Rattle.aead.specs.Bytes.{copied}
+use Rattle.octets.specs.Strings.{copied}
 use Rattle.aead.specs.declared.cipher.Cipher.{Cipher}
 
 -- the block under the schedule that counts: whatever bytes it holds

@@ -1,6 +1,2 @@
--- What every mode of sealing shares: byte strings, the key stream, a sealed part, the answers.
-pub mod Bytes
+-- How a key's schedules are held.
 pub mod Cipher
-pub mod Stream
-pub mod Mode
-pub mod Calls

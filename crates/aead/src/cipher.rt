@@ -1,5 +1,4 @@
 // AES under a key of either length. A record by value: it has a schedule of each kind, and says which one counts.
-use crate::bytes;
 use aes::Schedule128;
 use aes::Schedule256;
 ghost use mathlib.Core.Path.{_≡_};
@@ -41,11 +40,11 @@ impl Cipher {
     {
         if key.len() == 32 {
             let mut long = [0u8; 32];
-            bytes::copy(key, &mut long);
+            octets::copy(key, &mut long);
             return Cipher::long_key(long);
         }
         let mut short = [0u8; 16];
-        bytes::copy(key, &mut short);
+        octets::copy(key, &mut short);
         Cipher::short_key(short)
     }
 

@@ -2,7 +2,7 @@
 ghost use mathlib.Core.Path.{_≡_};
 ghost use mathlib.Core.Bool.{true};
 ghost use Rattle.answer.specs.First.{first};
-ghost use Rattle.aead.specs.Calls.{commonRefusals, sealAnswer, openAnswer};
+ghost use Rattle.sealing.specs.Calls.{commonRefusals, sealAnswer, openAnswer};
 
 // What sealing and opening ask first: 1, 2, 4.
 fn common_refusal(key: usize, nonce: usize, ad: usize) -> u8
@@ -16,7 +16,7 @@ fn common_refusal(key: usize, nonce: usize, ad: usize) -> u8
     if nonce != 12 {
         return answer::NONCE_LENGTH;
     }
-    if answer::MAX_AD < ad {
+    if sealing::MAX_AD < ad {
         return answer::AD_TOO_LONG;
     }
     answer::DONE
@@ -30,7 +30,7 @@ pub fn seal_refusal(key: usize, nonce: usize, ad: usize, text: usize, room: usiz
     if common != answer::DONE {
         return common;
     }
-    if answer::MAX_PLAINTEXT < text {
+    if sealing::MAX_PLAINTEXT < text {
         return answer::TEXT_TOO_LONG;
     }
     if room < text + 16 {
@@ -50,7 +50,7 @@ pub fn open_refusal(key: usize, nonce: usize, ad: usize, sealed: usize, room: us
     if sealed < 16 {
         return answer::SEALED_TOO_SHORT;
     }
-    if answer::MAX_SEALED < sealed {
+    if sealing::MAX_SEALED < sealed {
         return answer::TEXT_TOO_LONG;
     }
     if room < sealed - 16 {

@@ -1,5 +1,4 @@
-// What every mode of sealing shares: byte strings, AES under either key, and the refusals. The definitions and
-// the laws of the key stream and of a sealed part are in specs/ and proofs/. Assumes nothing.
-pub mod bytes;
+// What the code of every mode of sealing shares: AES under a key of either length, and the refusals that lengths
+// decide. Assumes nothing.
 pub mod cipher;
 pub mod lengths;

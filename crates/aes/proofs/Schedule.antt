@@ -7,7 +7,7 @@ use native.Mathlib.Numerals.{add-one}
 use lib.ListN.{length, getD, set, take, drop, length-append}
 use lib.Seq.{paste, paste-suc, take-length, take-at, length-take-le, getD-take}
 use borrow.Author.Tests.{eq-eqb, ne-eqb, lt-ltb, le-ltb}
-use Rattle.gf2.specs.Carryless.{_⊕_}
+use Rattle.octets.specs.Xor.{_⊕_}
 use Rattle.fips197.specs.Field.{gmul}
 use Rattle.fips197.proofs.Field.{gmul-lt, double-law}
 use Rattle.fips197.specs.KeyExpansion.{sum, word, rotWord, subWord, rcon, power, temp, nextWord, expand, keyExpansion}

@@ -2,7 +2,7 @@
 use mathlib.Core.Path.{sym, ap, _∙_}
 use mathlib.Core.List.{List}
 use Prim.Native.Nat.{ℕ}
-use Rattle.gf2.proofs.Promise.{Unique}
+use Rattle.logic.specs.Promise.{Unique}
 use Rattle.aes.proofs.expansion.expand128.Kinds as expand128-kinds
 use Rattle.aes.proofs.expansion.expand128.Reads as expand128-reads
 use Rattle.aes.proofs.expansion.expand256.Kinds as expand256-kinds

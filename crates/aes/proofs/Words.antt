@@ -7,10 +7,10 @@ use native.Mathlib.Nat.{add-comm}
 use lib.Pow.{pow-add, shl-lt, shr-shr, high, low}
 use lib.Bits.{bitOr, or-shifted}
 use lib.ListN.{length, getD}
-use Rattle.gf2.specs.Carryless.{_⊕_}
-use Rattle.gf2.specs.Bytes.{number, bytesOf}
-use Rattle.gf2.proofs.Xor.{⊕-mod, ⊕-shr, ⊕-comm, ⊕-assoc}
-use Rattle.gf2.proofs.Bytes.{Bytes, bytes-++, number-lt, number-++, bytesOf-number}
+use Rattle.octets.specs.Xor.{_⊕_}
+use Rattle.octets.specs.Numbers.{number, bytesOf}
+use Rattle.octets.proofs.Xor.{⊕-mod, ⊕-shr, ⊕-comm, ⊕-assoc}
+use Rattle.octets.proofs.Numbers.{Bytes, bytes-++, number-lt, number-++, bytesOf-number}
 use Rattle.fips197.specs.Table.{tab}
 use Rattle.fips197.specs.Field.{gmul}
 use Rattle.fips197.specs.Cipher.{mix, mixColumn, subBytes, shiftRows, mixColumns, addRoundKey, rounds, cipher}

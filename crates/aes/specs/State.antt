@@ -2,7 +2,7 @@
 use mathlib.Core.List.{List, _++_}
 use Prim.Native.Nat.{ℕ}
 use lib.ListN.{getD}
-use Rattle.gf2.specs.Bytes.{bytesOf}
+use Rattle.octets.specs.Numbers.{bytesOf}
 use Rattle.aes.specs.declared.rounds.State.{State}
 
 -- row r of a column

@@ -2,13 +2,13 @@
 // share of a column is row 0's, turned by as many bytes.
 use crate::Schedule128;
 use crate::Schedule256;
-use little_endian::le32;
-use little_endian::le32_bytes;
+use octets::words::le32;
+use octets::words::le32_bytes;
 ghost use mathlib.Core.Path.{_≡_};
 ghost use mathlib.Core.List.{[], _∷_};
 ghost use Prim.Native.Nat.{_+_, _*_, _%_, _≤_};
 ghost use lib.ListN.{length, getD};
-ghost use Rattle.gf2.specs.Bytes.{bytesOf};
+ghost use Rattle.octets.specs.Numbers.{bytesOf};
 ghost use Rattle.fips197.specs.Table.{tab};
 ghost use Rattle.fips197.specs.Sbox.{sbox};
 ghost use Rattle.fips197.specs.Cipher as fips;

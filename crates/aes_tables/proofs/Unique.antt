@@ -1,6 +1,6 @@
 -- For each public function, two answers that meet its contract, as the checker reads it, are equal. Assumes nothing.
 use mathlib.Core.Path.{sym, _∙_}
-use Rattle.gf2.proofs.Promise.{Unique}
+use Rattle.logic.specs.Promise.{Unique}
 use Rattle.aes_tables.proofs.sbox_table.Kinds as sbox-table-kinds
 use Rattle.aes_tables.proofs.sbox_table.Reads as sbox-table-reads
 use Rattle.aes_tables.proofs.word_table.Kinds as word-table-kinds

@@ -1,7 +1,7 @@
 -- SubBytes and MixColumns of one byte, as a word. FIPS 197 has no such table: it is how the code takes the two steps at once. Assumes nothing.
 use mathlib.Core.List.{List, [], _∷_}
 use Prim.Native.Nat.{ℕ}
-use Rattle.gf2.specs.Bytes.{number}
+use Rattle.octets.specs.Numbers.{number}
 use Rattle.fips197.specs.Table.{tab}
 use Rattle.fips197.specs.Field.{gmul}
 use Rattle.fips197.specs.Sbox.{sbox}

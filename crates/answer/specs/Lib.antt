@@ -1,4 +1,3 @@
 -- What the contracts of every crate cite: document 01's numbers, and the order in which they apply.
 pub mod Answers
-pub mod Limits
 pub mod First

@@ -34,12 +34,3 @@ pub const OUT_OF_RANGE: u8 = 13;
 pub const BAD_RECORD: u8 = 14;
 // A program's log is over MAX_LOG bytes.
 pub const LOG_TOO_LONG: u8 = 15;
-
-// The longest associated data, plaintext and sealed part of a sealing, and the longest log of a program.
-pub const MAX_AD: usize = 256;
-
-pub const MAX_PLAINTEXT: usize = 4096;
-
-pub const MAX_SEALED: usize = 4112;
-
-pub const MAX_LOG: usize = 1048576;

@@ -4,8 +4,8 @@ use mathlib.Core.List.{List}
 use Prim.Native.Nat.{ℕ, _+_, _*_, _^_, _<_}
 use native.Mathlib.Nat.{add-comm}
 use lib.ListN.{length}
-use Rattle.gf2.specs.Bytes.{number, bytesOf}
-use Rattle.gf2.proofs.Bytes.{Bytes, number-lt, number-bytesOf, bytesOf-number, cells, cells-all, number-++}
+use Rattle.octets.specs.Numbers.{number, bytesOf}
+use Rattle.octets.proofs.Numbers.{Bytes, number-lt, number-bytesOf, bytesOf-number, cells, cells-all, number-++}
 use Rattle.field.specs.declared.field_element.FieldElement.{FieldElement}
 use Rattle.field.specs.Element.{value, element}
 use Rattle.field.proofs.Element.{Sized, value-lt, value-element, element-of, element-value}

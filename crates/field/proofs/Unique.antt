@@ -1,6 +1,6 @@
 -- For each public function, two answers that meet its contract, as the checker reads it, are equal. Assumes nothing.
 use mathlib.Core.Path.{sym, _∙_}
-use Rattle.gf2.proofs.Promise.{Unique}
+use Rattle.logic.specs.Promise.{Unique}
 use Rattle.field.proofs.field_element.FieldElement.zero.Kinds as zero-kinds
 use Rattle.field.proofs.field_element.FieldElement.zero.Reads as zero-reads
 use Rattle.field.proofs.field_element.FieldElement.unit.Kinds as unit-kinds

@@ -2,7 +2,8 @@
 use mathlib.Core.Path.{_≡_, refl}
 use mathlib.Core.List.{List, [], _∷_}
 use Prim.Native.Nat.{ℕ}
-use Rattle.gf2.specs.Carryless.{_⊕_, clmulN, clmul}
+use Rattle.octets.specs.Xor.{_⊕_}
+use Rattle.gf2.specs.Carryless.{clmulN, clmul}
 use Rattle.gf2.specs.Remainder.{timesX, remainderN, remainder}
 use Rattle.fips197.specs.Field.{gmul, powers, inverse}
 use Rattle.fips197.specs.Sbox.{affine, sbox}

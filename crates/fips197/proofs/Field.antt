@@ -2,7 +2,8 @@
 use mathlib.Core.Path.{_≡_, refl}
 use Prim.Native.Nat.{ℕ, _*_, _/_, _%_, _<_, min}
 use lib.Dec.{lit<}
-use Rattle.gf2.specs.Carryless.{_⊕_, clmulN, clmul}
+use Rattle.octets.specs.Xor.{_⊕_}
+use Rattle.gf2.specs.Carryless.{clmulN, clmul}
 use Rattle.gf2.specs.Remainder.{timesX, remainderN, remainder}
 use Rattle.gf2.proofs.Remainder.{Monic, remainder-lt}
 use Rattle.fips197.specs.Table.{tab}

@@ -5,7 +5,7 @@ use mathlib.Core.List.{List}
 use Prim.Native.Nat.{ℕ, _+_, _*_, _-_}
 use lib.Dec.{eqb}
 use lib.ListN.{length, getD}
-use Rattle.gf2.specs.Carryless.{_⊕_}
+use Rattle.octets.specs.Xor.{_⊕_}
 use Rattle.fips197.specs.Cipher.{subBytes, shiftRows, addRoundKey, rounds, cipher}
 use Rattle.fips197.specs.KeyExpansion.{pick, keyExpansion}
 use Rattle.fips197.specs.Aes.{aes}

@@ -4,7 +4,7 @@ use mathlib.Core.Bool.{Bool, true, false}
 use Prim.Native.Nat.{ℕ, zero, suc, _+_, _*_, _/_, _%_, _-_}
 use lib.ListN.{getD}
 use lib.Dec.{eqb, ltb}
-use Rattle.gf2.specs.Carryless.{_⊕_}
+use Rattle.octets.specs.Xor.{_⊕_}
 use Rattle.fips197.specs.Table.{tab}
 use Rattle.fips197.specs.Field.{gmul}
 use Rattle.fips197.specs.Cipher.{subs}

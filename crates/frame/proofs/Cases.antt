@@ -6,7 +6,7 @@ use mathlib.Core.Bool.{true, false}
 use native.Mathlib.Omega.{arith}
 use lib.IntN.{pos, negℤ}
 use lib.ListN.{length, replicate}
-use Rattle.gf2.specs.Bytes.{number, bytesOf}
+use Rattle.octets.specs.Numbers.{number, bytesOf}
 use Rattle.answer.specs.Answers.{lengthForKind, cutShort}
 use Rattle.frame.specs.declared.Front.the-variants.{Whole, Stop}
 use Rattle.frame.specs.Position.{inRange, positionOf, positionBytes}

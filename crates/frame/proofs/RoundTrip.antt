@@ -9,8 +9,8 @@ use lib.ListN.{length, take, drop, length-drop}
 use lib.Seq.{length-take-le, take-all, take-add}
 use mir.Syntax.{w32}
 use mir.Val.{SFits}
-use Rattle.gf2.specs.Bytes.{number, bytesOf}
-use Rattle.gf2.proofs.Bytes.{Bytes, bytes-take, bytes-drop, number-lt, number-bytesOf, bytesOf-number}
+use Rattle.octets.specs.Numbers.{number, bytesOf}
+use Rattle.octets.proofs.Numbers.{Bytes, bytes-take, bytes-drop, number-lt, number-bytesOf, bytesOf-number}
 use Rattle.frame.specs.declared.position.Position.{Position}
 use Rattle.frame.specs.Signed.{signed, bitsOf}
 use Rattle.frame.specs.Position.{wordAt, positionOf, positionBytes}

@@ -4,7 +4,7 @@ use Prim.Native.Nat.{ℕ}
 use mathlib.Core.Path.{sym, _∙_}
 use mathlib.Core.List.{List}
 use denote.Ref.{now, ptr}
-use Rattle.gf2.proofs.Promise.{Unique, Fixes}
+use Rattle.logic.specs.Promise.{Unique, Fixes}
 use Rattle.frame.proofs.kind.is_known.Kinds as is-known-kinds
 use Rattle.frame.proofs.kind.is_known.Reads as is-known-reads
 use Rattle.frame.proofs.kind.is_allowed.Kinds as is-allowed-kinds

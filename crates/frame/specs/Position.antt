@@ -5,7 +5,7 @@ use mathlib.Core.Bool.{Bool, _&&_}
 use lib.IntN.{ℤ, pos, negℤ}
 use lib.Signed.{leZ}
 use lib.ListN.{take, drop}
-use Rattle.gf2.specs.Bytes.{number, bytesOf}
+use Rattle.octets.specs.Numbers.{number, bytesOf}
 use Rattle.frame.specs.declared.position.Position.{Position}
 use Rattle.frame.specs.Signed.{signed, bitsOf}
 

@@ -1,10 +1,10 @@
 // A position: its four fields, its sixteen bytes, and the ranges of its fields. Nobody above this file
 // encodes a signed field. Assumes nothing.
-use little_endian::le32;
-use little_endian::le32_bytes;
+use octets::words::le32;
+use octets::words::le32_bytes;
 ghost use mathlib.Core.Path.{_≡_};
 ghost use mathlib.Core.List.{[], _∷_};
-ghost use Rattle.gf2.specs.Bytes.{number};
+ghost use Rattle.octets.specs.Numbers.{number};
 ghost use Rattle.frame.specs.Signed.{signed, bitsOf};
 ghost use Rattle.frame.specs.Position.{within, inRange, positionOf, positionBytes};
 

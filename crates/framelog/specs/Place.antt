@@ -1,7 +1,7 @@
 -- Where a reader of a log stands: what holds from turn to turn, and what a turn uses up. Assumes nothing.
 use Prim.Native.Nat.{ℕ, suc, _+_, _-_, _*_, _≤_}
 use mathlib.Core.Bool.{cond}
-use Rattle.answer.specs.Limits.{maxLog}
+use Rattle.sealing.specs.Limits.{maxLog}
 use Rattle.framelog.specs.declared.Place.{Place}
 
 -- the part held lies in the window; what was reported, what is held and what is left make up a log that is not too long; and

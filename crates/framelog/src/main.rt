@@ -12,7 +12,7 @@ ghost use mathlib.Core.Path.{_≡_};
 ghost use mathlib.Core.Bool.{true};
 ghost use Prim.Native.Nat.{_+_, _≤_, _<_};
 ghost use lib.ListN.{length};
-ghost use Rattle.answer.specs.Limits.{maxLog};
+ghost use Rattle.sealing.specs.Limits.{maxLog};
 ghost use Rattle.io.specs.Counts.{Counts};
 ghost use Rattle.frame.specs.declared.Front.the-variants.{Whole};
 ghost use Rattle.frame.specs.Kinds.{maxFramePlaintext};
@@ -254,7 +254,7 @@ fn measure_some(fd: i32, path: &[u8]) -> Got
 // How many bytes a log has, up to some more than a log may have.
 fn measure(fd: i32, path: &[u8]) -> Measured {
     let mut len: usize = 0;
-    while len <= answer::MAX_LOG {
+    while len <= sealing::MAX_LOG {
         let got = measure_some(fd, path);
         let more = got.count;
         if more == 0 {
@@ -273,7 +273,7 @@ fn put_too_long() {
     io::write_all(STDOUT_FILENO, b"refused ");
     io::print_decimal(STDOUT_FILENO, answer::LOG_TOO_LONG as u64);
     io::write_all(STDOUT_FILENO, b": the log is over ");
-    io::print_decimal(STDOUT_FILENO, answer::MAX_LOG as u64);
+    io::print_decimal(STDOUT_FILENO, sealing::MAX_LOG as u64);
     io::write_all(STDOUT_FILENO, b" bytes\n");
 }
 
@@ -284,7 +284,7 @@ fn read_log(fd: i32, path: &[u8], key: &[u8]) {
         return;
     }
     let len = measured.len;
-    if answer::MAX_LOG < len {
+    if sealing::MAX_LOG < len {
         put_too_long();
         return;
     }

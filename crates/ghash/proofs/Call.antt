@@ -8,19 +8,20 @@ use lib.Dec.{eqb}
 use lib.ListN.{length, replicate}
 use lib.Pow.{pow-pos}
 use Rattle.answer.specs.Answers.{done, keyLength, notWholeBlocks}
-use Rattle.gf2.specs.Bytes.{number, bytesOf}
+use Rattle.octets.specs.Numbers.{number, bytesOf}
 use Rattle.gf2.proofs.Remainder.{timesX-lt}
 use Rattle.gf2.proofs.Dot.{polyval as field-is}
 use Rattle.field.specs.Element.{value, element}
 use Rattle.field.proofs.Element.{value-element}
-use Rattle.polyval.specs.Machine.{run, polyval}
-use Rattle.polyval.specs.Blocks.{blocks}
-use Rattle.polyval.proofs.Run.{run-lt}
+use Rattle.rfc8452.specs.Machine.{run, polyval}
+use Rattle.rfc8452.specs.Blocks.{blocks}
+use Rattle.rfc8452.proofs.Run.{run-lt}
 use Rattle.ghash.specs.declared.parts.Ghash.{Ghash}
 use Rattle.ghash.specs.declared.parts.Started.{Started}
 use Rattle.ghash.specs.declared.Hashed.{Hashed}
-use Rattle.ghash.specs.Calls.{reversed, keyFor, startOf, fedOf, tagOf, hashedOf}
-use Rattle.ghash.proofs.Reversed.{reversed-lt}
+use Rattle.rfc8452.specs.AppendixA.{reversed, keyFor}
+use Rattle.ghash.specs.Calls.{startOf, fedOf, tagOf, hashedOf}
+use Rattle.rfc8452.proofs.Reversed.{reversed-lt}
 
 pub keyFor-lt : (key : List ℕ) → keyFor key < 2 ^ 128
 keyFor-lt key = timesX-lt field-is (reversed (number key)) (reversed-lt (number key))

@@ -5,12 +5,12 @@ use Prim.Native.Nat.{ℕ, _+_, _≤_, _<_}
 use native.Mathlib.Omega.{arith}
 use lib.ListN.{length, take, drop, length-drop, drop-of-length-le}
 use lib.Seq.{drop-drop}
-use Rattle.gf2.specs.Bytes.{number}
-use Rattle.polyval.specs.Machine.{step, run}
-use Rattle.polyval.specs.Blocks.{blocks}
-use Rattle.polyval.proofs.Cut.{blocks-none}
-use Rattle.polyval.proofs.Parts.{blocks-cons}
-use Rattle.ghash.specs.Calls.{reversed}
+use Rattle.octets.specs.Numbers.{number}
+use Rattle.rfc8452.specs.Machine.{step, run}
+use Rattle.rfc8452.specs.Blocks.{blocks}
+use Rattle.rfc8452.proofs.Cut.{blocks-none}
+use Rattle.rfc8452.proofs.Parts.{blocks-cons}
+use Rattle.rfc8452.specs.AppendixA.{reversed}
 
 pub fed-turn : (h a : ℕ) (s : List ℕ) (i : ℕ) → i < length s
     → run h a (map reversed (blocks (drop i s))) ≡ run h (step h a (reversed (number (take 16 (drop i s))))) (map reversed (blocks (drop (i + 16) s)))

@@ -1,6 +1,6 @@
 -- For each public function, two answers that meet its contract, as the checker reads it, are equal. Assumes nothing.
 use mathlib.Core.Path.{sym, _∙_}
-use Rattle.gf2.proofs.Promise.{Unique}
+use Rattle.logic.specs.Promise.{Unique}
 use Rattle.ghash.proofs.parts.Ghash.start.Kinds as start-kinds
 use Rattle.ghash.proofs.parts.Ghash.start.Reads as start-reads
 use Rattle.ghash.proofs.parts.Ghash.feed_padded.Kinds as feed-padded-kinds

@@ -6,23 +6,14 @@ use lib.Dec.{eqb}
 use lib.ListN.{length, replicate}
 use Rattle.answer.specs.Answers.{done, keyLength, notWholeBlocks}
 use Rattle.answer.specs.First.{first, _⇒_}
-use Rattle.gf2.specs.Polyval.{mulx}
-use Rattle.gf2.specs.Bytes.{number, bytesOf}
+use Rattle.octets.specs.Numbers.{bytesOf}
 use Rattle.field.specs.Element.{value, element}
-use Rattle.polyval.specs.Machine.{run, polyval}
-use Rattle.polyval.specs.Blocks.{blocks}
-use Rattle.ghash.specs.Gcm.{ghashOf, bits, bitBlocks}
+use Rattle.rfc8452.specs.Machine.{run, polyval}
+use Rattle.rfc8452.specs.Blocks.{blocks}
+use Rattle.sp800_38d.specs.Ghash.{ghashOf, bits, bitBlocks}
 use Rattle.ghash.specs.declared.parts.Ghash.{Ghash}
 use Rattle.ghash.specs.declared.parts.Started.{Started}
 use Rattle.ghash.specs.declared.Hashed.{Hashed}
-
--- sixteen bytes in the opposite order
-abbrev pub reversed : ℕ → ℕ
-reversed x = number (reverse (bytesOf 16 x))
-
--- POLYVAL's key for GHASH's
-abbrev pub keyFor : List ℕ → ℕ
-keyFor key = mulx (reversed (number key))
 
 abbrev pub startAnswer : (key : List ℕ) → ℕ
 startAnswer key = first (not (eqb (length key) 16) ⇒ keyLength ∷ [])

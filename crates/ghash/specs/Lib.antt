@@ -1,3 +1,2 @@
--- What a reader must believe: GHASH as NIST states it, and by way of POLYVAL, which the contracts cite.
-pub mod Gcm
+-- What the contracts cite: GHASH by way of POLYVAL, on the record that code holds.
 pub mod Calls

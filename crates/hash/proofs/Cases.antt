@@ -7,18 +7,18 @@ use lib.Dec.{lit<, lit≤}
 use lib.ListN.{length, replicate}
 use borrow.Author.Tests.{eq-eqb}
 use Rattle.answer.specs.Answers.{done, notWholeBlocks}
-use Rattle.gf2.specs.Bytes.{number, bytesOf}
+use Rattle.octets.specs.Numbers.{number, bytesOf}
 use Rattle.gf2.specs.Polyval.{unit}
-use Rattle.gf2.proofs.Bytes.{bytes-zeros, Bytes, number-lt, bytesOf-number, number-bytesOf, bytesOf-length, bytesOf-bytes}
+use Rattle.octets.proofs.Numbers.{bytes-zeros, Bytes, number-lt, bytesOf-number, number-bytesOf, bytesOf-length, bytesOf-bytes}
 use Rattle.gf2.proofs.Dot.{unit-lt}
 use Rattle.field.specs.Element.{element}
 use Rattle.field.specs.Rf.{counted}
 use Rattle.polyval.specs.declared.route.Route.{Route}
 use Rattle.polyval.specs.declared.route.Route.the-variants.{Wide}
-use Rattle.polyval.specs.Machine.{run, polyval}
-use Rattle.polyval.specs.Blocks.{blocksN, blocks}
+use Rattle.rfc8452.specs.Machine.{run, polyval}
+use Rattle.rfc8452.specs.Blocks.{blocksN, blocks}
 use Rattle.polyval.specs.Key.{keyOf, expansionCost, checkOf}
-use Rattle.polyval.proofs.Cut.{blocks-one}
+use Rattle.rfc8452.proofs.Cut.{blocks-one}
 use Rattle.polyval.proofs.Check.{made-checks}
 use Rattle.polyval.proofs.Cases.{zero-key, unit-key, zero-belongs}
 use Rattle.hash.specs.declared.Hash.{Hash}

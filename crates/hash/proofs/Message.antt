@@ -6,8 +6,8 @@ use native.Mathlib.Decide.{decLe}
 use native.Mathlib.Omega.{arith}
 use lib.ListN.{length, take, replicate, length-append, length-replicate, length-drop, take-append-drop}
 use lib.Seq.{take-at, length-take-le}
-use Rattle.polyval.specs.Blocks.{blocks}
-use Rattle.polyval.proofs.Cut.{blocks-one, blocks-++, number-zeros}
+use Rattle.rfc8452.specs.Blocks.{blocks}
+use Rattle.rfc8452.proofs.Cut.{blocks-one, blocks-++, number-zeros}
 use Rattle.hash.specs.Record.{filled}
 use Rattle.hash.specs.Calls.{wholePart, shortPart}
 use Rattle.hash.specs.Feeds.{toBlocks}

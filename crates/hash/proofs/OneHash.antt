@@ -11,21 +11,21 @@ use borrow.Author.Tests.{eqb-true, ltb-false, le-ltb, not-false}
 use Rattle.answer.specs.Answers.{done, badRecord, notWholeBlocks}
 use Rattle.answer.specs.First.{_⇒_}
 use Rattle.answer.proofs.First.{Told, Passed, all-passed}
-use Rattle.gf2.specs.Bytes.{bytesOf}
-use Rattle.gf2.proofs.Bytes.{Bytes, bytes-zeros, bytes-++, bytes-take, bytes-drop}
+use Rattle.octets.specs.Numbers.{bytesOf}
+use Rattle.octets.proofs.Numbers.{Bytes, bytes-zeros, bytes-++, bytes-take, bytes-drop}
 use Rattle.field.specs.declared.rf.Counted.{Counted}
 use Rattle.field.specs.Element.{value, element}
 use Rattle.field.proofs.Element.{Sized, value-lt, value-of, element-sized}
 use Rattle.polyval.specs.declared.key.ExpandedKey.{ExpandedKey}
 use Rattle.polyval.specs.declared.route.Route.{Route}
-use Rattle.polyval.specs.Machine.{run}
-use Rattle.polyval.specs.Blocks.{blocks}
+use Rattle.rfc8452.specs.Machine.{run}
+use Rattle.rfc8452.specs.Blocks.{blocks}
 use Rattle.polyval.specs.Key.{hOf}
 use Rattle.polyval.specs.Formulas.{inGroups, alone}
 use Rattle.polyval.specs.Routes.{absorbOn}
-use Rattle.polyval.proofs.Run.{run-lt, run-++}
-use Rattle.polyval.proofs.Cut.{blocks-++}
-use Rattle.polyval.proofs.Parts.{blocks-elements}
+use Rattle.rfc8452.proofs.Run.{run-lt, run-++}
+use Rattle.rfc8452.proofs.Cut.{blocks-++}
+use Rattle.rfc8452.proofs.Parts.{blocks-elements}
 use Rattle.polyval.proofs.Agree.{Checked, agree}
 use Rattle.hash.specs.declared.Hash.{Hash}
 use Rattle.hash.specs.declared.Fed.{Fed}

@@ -12,10 +12,10 @@ use Rattle.field.specs.declared.field_element.FieldElement.{FieldElement}
 use Rattle.field.specs.declared.rf.Counted.{Counted}
 use Rattle.field.proofs.Element.{Sized}
 use Rattle.polyval.specs.declared.route.Route.{Route}
-use Rattle.polyval.specs.Blocks.{blocks}
+use Rattle.rfc8452.specs.Blocks.{blocks}
 use Rattle.polyval.specs.Formulas.{alone}
 use Rattle.polyval.specs.Routes.{absorbOn}
-use Rattle.polyval.proofs.Cut.{blocks-++}
+use Rattle.rfc8452.proofs.Cut.{blocks-++}
 use Rattle.polyval.proofs.Alone.{alone-++, alone-element}
 use Rattle.hash.specs.declared.Hash.{Hash}
 use Rattle.hash.specs.Record.{filled, pendingOf, heldBy, fedOr}

@@ -8,14 +8,14 @@ use lib.ListN.{length, length-append}
 use lib.Seq.{length-take-le}
 use borrow.Author.Tests.{le-ltb}
 use Rattle.answer.specs.Answers.{done, badRecord}
-use Rattle.gf2.specs.Bytes.{number}
+use Rattle.octets.specs.Numbers.{number}
 use Rattle.field.specs.Rf.{counted}
 use Rattle.polyval.specs.declared.route.Route.the-variants.{Wide, Narrow, Rf}
-use Rattle.polyval.specs.Blocks.{blocks}
+use Rattle.rfc8452.specs.Blocks.{blocks}
 use Rattle.polyval.specs.Key.{keyOf, expansionCost}
 use Rattle.polyval.specs.Routes.{absorbOn}
 use Rattle.polyval.specs.Formulas.{inGroups, alone}
-use Rattle.polyval.proofs.Parts.{blocks-length}
+use Rattle.rfc8452.proofs.Parts.{blocks-length}
 use Rattle.polyval.proofs.Cost.{run-cost, groups-number, alone-number}
 use Rattle.hash.specs.declared.Hash.{Hash}
 use Rattle.hash.specs.Record.{pendingOf, heldBy, holding, finishedOr}

@@ -11,7 +11,7 @@ use Rattle.answer.specs.Answers.{done, badRecord, notWholeBlocks}
 use Rattle.answer.specs.First.{first, _⇒_}
 use Rattle.field.specs.Rf.{counted}
 use Rattle.polyval.specs.declared.route.Route.{Route}
-use Rattle.polyval.specs.Blocks.{blocks}
+use Rattle.rfc8452.specs.Blocks.{blocks}
 use Rattle.polyval.specs.Formulas.{inGroups, alone}
 use Rattle.polyval.specs.Routes.{absorbOn}
 use Rattle.hash.specs.declared.Hash.{Hash}

@@ -6,14 +6,14 @@ use Prim.Native.Nat.{ℕ, zero-le, _^_, _<_}
 use lib.ListN.{length}
 use borrow.Author.Tests.{eq-eqb}
 use Rattle.answer.specs.Answers.{done, keyLength}
-use Rattle.gf2.specs.Bytes.{number, bytesOf}
-use Rattle.gf2.proofs.Bytes.{bytes-zeros, Bytes, number-lt}
+use Rattle.octets.specs.Numbers.{number, bytesOf}
+use Rattle.octets.proofs.Numbers.{bytes-zeros, Bytes, number-lt}
 use Rattle.field.specs.Rf.{counted}
 use Rattle.field.proofs.Element.{element-sized}
 use Rattle.polyval.specs.declared.route.Route.{Route}
 use Rattle.polyval.specs.declared.route.Route.the-variants.{Wide, Narrow, Rf}
-use Rattle.polyval.specs.Machine.{run, polyval}
-use Rattle.polyval.specs.Blocks.{blocks}
+use Rattle.rfc8452.specs.Machine.{run, polyval}
+use Rattle.rfc8452.specs.Blocks.{blocks}
 use Rattle.polyval.specs.Key.{keyOf, checkOf, expansionCost}
 use Rattle.polyval.proofs.Check.{made-checks, value-hOf}
 use Rattle.polyval.proofs.Agree.{Checked}

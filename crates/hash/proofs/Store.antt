@@ -6,8 +6,8 @@ use native.Mathlib.Nat.{min-eq-left}
 use native.Mathlib.Omega.{arith}
 use lib.ListN.{length, take, drop, replicate, length-append}
 use lib.Seq.{paste, take-all, take-at, take-add, take-append-add, drop-append-add, length-take-le}
-use Rattle.polyval.specs.Blocks.{blocks}
-use Rattle.polyval.proofs.Cut.{blocks-++, drop-zeros, pasted-zeros}
+use Rattle.rfc8452.specs.Blocks.{blocks}
+use Rattle.rfc8452.proofs.Cut.{blocks-++, drop-zeros, pasted-zeros}
 use Rattle.hash.specs.Record.{filled}
 use Rattle.hash.specs.Calls.{wholePart, shortPart}
 

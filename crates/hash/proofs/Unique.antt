@@ -1,6 +1,6 @@
 -- For each public function, two answers that meet its contract, as the checker reads it, are equal. Assumes nothing.
 use mathlib.Core.Path.{sym, _∙_}
-use Rattle.gf2.proofs.Promise.{Unique}
+use Rattle.logic.specs.Promise.{Unique}
 use Rattle.hash.proofs.Hash.zero.Kinds as zero-kinds
 use Rattle.hash.proofs.Hash.zero.Reads as zero-reads
 use Rattle.hash.proofs.Hash.start.Kinds as start-kinds

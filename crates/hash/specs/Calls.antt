@@ -6,12 +6,12 @@ use lib.Dec.{eqb, ltb}
 use lib.ListN.{length, take, drop}
 use Rattle.answer.specs.Answers.{done, keyLength, notWholeBlocks, badRecord}
 use Rattle.answer.specs.First.{first, _⇒_}
-use Rattle.gf2.specs.Bytes.{number, bytesOf}
+use Rattle.octets.specs.Numbers.{number, bytesOf}
 use Rattle.field.specs.declared.rf.Counted.{Counted}
 use Rattle.field.specs.Element.{value}
 use Rattle.field.specs.Rf.{counted}
 use Rattle.polyval.specs.declared.route.Route.{Route}
-use Rattle.polyval.specs.Blocks.{blocks}
+use Rattle.rfc8452.specs.Blocks.{blocks}
 use Rattle.polyval.specs.Key.{keyOf, expansionCost}
 use Rattle.polyval.specs.Formulas.{inGroups, alone}
 use Rattle.polyval.specs.Routes.{absorbOn}

@@ -10,25 +10,25 @@ use lib.Pow.{pow-pos}
 use borrow.Author.Tests.{eq-eqb}
 use Rattle.answer.specs.Answers.{done, badRecord, notWholeBlocks}
 use Rattle.answer.specs.First.{first, _⇒_}
-use Rattle.gf2.specs.Carryless.{_⊕_}
+use Rattle.octets.specs.Xor.{_⊕_}
 use Rattle.gf2.specs.Polyval.{dot}
-use Rattle.gf2.specs.Bytes.{number}
-use Rattle.gf2.proofs.Xor.{⊕-assoc, ⊕-zero}
+use Rattle.octets.specs.Numbers.{number}
+use Rattle.octets.proofs.Xor.{⊕-assoc, ⊕-zero}
 use Rattle.gf2.proofs.Dot.{⊕-dot}
-use Rattle.gf2.proofs.Bytes.{Bytes, bytes-++, number-lt}
+use Rattle.octets.proofs.Numbers.{Bytes, bytes-++, number-lt}
 use Rattle.field.specs.declared.field_element.FieldElement.{FieldElement}
 use Rattle.field.specs.Element.{value, element}
 use Rattle.field.specs.Rf.{counted}
 use Rattle.field.proofs.Element.{value-element, value-of, element-sized}
 use Rattle.polyval.specs.declared.route.Route.{Route}
 use Rattle.polyval.specs.declared.route.Route.the-variants.{Wide, Narrow, Rf}
-use Rattle.polyval.specs.Machine.{step, run}
-use Rattle.polyval.specs.Blocks.{blocks}
+use Rattle.rfc8452.specs.Machine.{step, run}
+use Rattle.rfc8452.specs.Blocks.{blocks}
 use Rattle.polyval.specs.Key.{keyOf, hOf, sameElement, expansionCost}
 use Rattle.polyval.specs.Formulas.{inGroups}
-use Rattle.polyval.proofs.Run.{run-lt, run-++}
-use Rattle.polyval.proofs.Cut.{blocks-++}
-use Rattle.polyval.proofs.Parts.{blocks-length, blocks-elements}
+use Rattle.rfc8452.proofs.Run.{run-lt, run-++}
+use Rattle.rfc8452.proofs.Cut.{blocks-++}
+use Rattle.rfc8452.proofs.Parts.{blocks-length, blocks-elements}
 use Rattle.polyval.proofs.Check.{made-checks, value-hOf}
 use Rattle.polyval.proofs.Agree.{Checked, agree}
 use Rattle.hash.specs.declared.Hash.{Hash}

@@ -6,7 +6,7 @@ use lib.Dec.{eqb, ltb}
 use lib.ListN.{replicate}
 use Rattle.answer.specs.Answers.{done, badRecord}
 use Rattle.answer.specs.First.{first, _⇒_}
-use Rattle.gf2.specs.Carryless.{_⊕_}
+use Rattle.octets.specs.Xor.{_⊕_}
 use Rattle.field.specs.Element.{value, element}
 use Rattle.polyval.specs.Key.{hOf, sameElement}
 use Rattle.hash.specs.declared.Hash.{Hash}

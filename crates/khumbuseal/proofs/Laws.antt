@@ -19,8 +19,8 @@ use Rattle.join.specs.declared.Joined.{Joined}
 use Rattle.frame.specs.declared.position.Position.{Position}
 use Rattle.ghash.specs.declared.parts.Started.{Started}
 use Rattle.message.specs.Message.{Values}
-use Rattle.place.specs.Put.{Puts}
-use Rattle.place.proofs.Written.{then, put-wrote}
+use Rattle.octets.specs.Places.{Puts}
+use Rattle.octets.proofs.Places.{then, put-wrote}
 use Rattle.record.specs.Bytes.{recordBytes}
 use Rattle.khumbuseal.specs.declared.frames.MessageCells.{MessageCells}
 use Rattle.khumbuseal.specs.Cells.{stored, yesOrNo}

@@ -5,7 +5,7 @@ use mathlib.Core.Path.{sym, _∙_}
 use mathlib.Core.List.{List}
 use lib.IntN.{ℤ}
 use denote.Ref.{now}
-use Rattle.gf2.proofs.Promise.{Unique, UniqueMemory, Fixes}
+use Rattle.logic.specs.Promise.{Unique, UniqueMemory, Fixes}
 use Rattle.khumbuseal.proofs.hashing.khumbuseal_hash_start.Kinds as hash-start-kinds
 use Rattle.khumbuseal.proofs.hashing.khumbuseal_hash_start.Reads as hash-start-reads
 use Rattle.khumbuseal.proofs.hashing.khumbuseal_hash_feed_blocks.Kinds as hash-feed-blocks-kinds

@@ -15,8 +15,8 @@ fn joined(a: [u8; 16], b: [u8; 16]) -> [u8; GHASH_SIZE]
     ensures { λ r. ⌜ r ≡ a ++ b ⌝ }
 {
     let mut out = [0u8; GHASH_SIZE];
-    let next = place::put(&mut out, 0, &a);
-    place::put(&mut out, next, &b);
+    let next = octets::put(&mut out, 0, &a);
+    octets::put(&mut out, next, &b);
     out
 }
 

@@ -1,5 +1,5 @@
 // Sealing and opening for C. Assumes nothing.
-ghost use Rattle.siv.specs.Siv.{Seals, Opens};
+ghost use Rattle.sealing.specs.Siv.{Seals, Opens};
 
 // Seals a plaintext: out gets the ciphertext and the tag.
 #[no_mangle]

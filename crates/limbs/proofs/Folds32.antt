@@ -6,9 +6,9 @@ use native.Mathlib.Omega.{arith}
 use lib.Arith.{digits-lt}
 use lib.Dec.{lit<}
 use lib.Pow.{pow-pos, shr-lt, split, low, high}
-use Rattle.gf2.specs.Carryless.{_⊕_}
+use Rattle.octets.specs.Xor.{_⊕_}
 use Rattle.gf2.specs.Polyval.{modulus, reduce, xInv128}
-use Rattle.gf2.proofs.Xor.{zero-⊕, ⊕-comm, ⊕-lt, ⊕-block, ⊕-low}
+use Rattle.octets.proofs.Xor.{zero-⊕, ⊕-comm, ⊕-lt, ⊕-block, ⊕-low}
 use Rattle.gf2.proofs.Product.{_⊗_, ⊗-comm, ⊗-deg, shl-⊗}
 use Rattle.gf2.proofs.Fold.{xInv, fold, folds32}
 use Rattle.word.specs.declared.Words.{Words}

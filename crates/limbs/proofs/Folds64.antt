@@ -5,9 +5,9 @@ use native.Mathlib.Nat.{mod-lt}
 use lib.Arith.{digits-lt}
 use lib.Dec.{lit<}
 use lib.Pow.{pow-pos, shr-lt, split, low, high}
-use Rattle.gf2.specs.Carryless.{_⊕_}
+use Rattle.octets.specs.Xor.{_⊕_}
 use Rattle.gf2.specs.Polyval.{reduce, xInv64, xInv128}
-use Rattle.gf2.proofs.Xor.{⊕-comm, ⊕-lt, ⊕-block, ⊕-low}
+use Rattle.octets.proofs.Xor.{⊕-comm, ⊕-lt, ⊕-block, ⊕-low}
 use Rattle.gf2.proofs.Product.{_⊗_, ⊗-comm, ⊗-deg}
 use Rattle.gf2.proofs.Fold.{fold, xInv-64, folds64}
 use Rattle.word.specs.declared.Words.{Words}

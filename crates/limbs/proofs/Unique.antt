@@ -1,6 +1,6 @@
 -- For each public function, two answers that meet its contract, as the checker reads it, are equal. Assumes nothing.
 use mathlib.Core.Path.{sym, _∙_}
-use Rattle.gf2.proofs.Promise.{Unique}
+use Rattle.logic.specs.Promise.{Unique}
 use Rattle.limbs.proofs.mul64.dot.Kinds as dot-kinds
 use Rattle.limbs.proofs.mul64.dot.Reads as dot-reads
 use Rattle.limbs.proofs.mul32.dot32.Kinds as dot32-kinds

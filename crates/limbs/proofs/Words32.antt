@@ -6,9 +6,10 @@ use native.Mathlib.Nat.{mod-eq-of-lt}
 use native.Mathlib.Omega.{arith}
 use lib.ListN.{getD}
 use lib.Pow.{pow-pos, shr-lt}
-use Rattle.gf2.specs.Carryless.{_⊕_, clmul}
+use Rattle.octets.specs.Xor.{_⊕_}
+use Rattle.gf2.specs.Carryless.{clmul}
 use Rattle.gf2.specs.Words.{wordAt}
-use Rattle.gf2.proofs.Xor.{zero-⊕}
+use Rattle.octets.proofs.Xor.{zero-⊕}
 use Rattle.gf2.proofs.Product.{_⊗_}
 use Rattle.gf2.proofs.Reverse.{upper, column-⊗, column-⊕}
 use Rattle.gf2.proofs.Columns.{columns, carried, words, Double, row, word-row, rejoin}

@@ -1,6 +1,7 @@
 -- The records of mul32, and what each of its steps answers. Assumes nothing.
 use Prim.Native.Nat.{ℕ, _+_, _*_, _/_, _%_, _^_}
-use Rattle.gf2.specs.Carryless.{_⊕_, clmul, rev}
+use Rattle.octets.specs.Xor.{_⊕_}
+use Rattle.gf2.specs.Carryless.{clmul, rev}
 use Rattle.gf2.specs.Words.{wordAt}
 use Rattle.word.specs.declared.Words.{Words}
 use Rattle.limbs.specs.declared.mul32.Quarters.{Quarters}

@@ -1,6 +1,7 @@
 -- The records of mul64, and what each of its steps answers. Assumes nothing.
 use Prim.Native.Nat.{ℕ, _+_, _*_, _%_, _^_}
-use Rattle.gf2.specs.Carryless.{_⊕_, clmul, rev}
+use Rattle.octets.specs.Xor.{_⊕_}
+use Rattle.gf2.specs.Carryless.{clmul, rev}
 use Rattle.gf2.specs.Words.{wordAt}
 use Rattle.limbs.specs.declared.mul64.Product.{Product}
 use Rattle.limbs.specs.declared.mul64.Limbs.{Limbs}

@@ -3,7 +3,7 @@
 use mathlib.Core.Path.{_≡_, sym, _∙_}
 use mathlib.Core.List.{List}
 use Prim.Native.Nat.{ℕ}
-use Rattle.gf2.proofs.Promise.{Unique}
+use Rattle.logic.specs.Promise.{Unique}
 use Rattle.lines.specs.Text.{Put}
 use Rattle.lines.proofs.hex_digit.Kinds as hex-digit-kinds
 use Rattle.lines.proofs.hex_digit.Reads as hex-digit-reads

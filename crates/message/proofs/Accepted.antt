@@ -9,7 +9,7 @@ use borrow.Author.Tests.{eqb-true, eqb-false, eq-eqb}
 use lib.Dec.{eqb}
 use lib.ListN.{length, take, drop}
 use lib.Seq.{take-at}
-use Rattle.gf2.proofs.Bytes.{Bytes, bytes-take}
+use Rattle.octets.proofs.Numbers.{Bytes, bytes-take}
 use Rattle.frame.specs.declared.position.Position.{Position}
 use Rattle.frame.specs.Position.{positionOf, positionBytes}
 use Rattle.frame.specs.Kinds as kinds

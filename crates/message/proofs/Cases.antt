@@ -6,7 +6,7 @@ use mathlib.Core.Logic.{_⊎_}
 use native.Mathlib.Omega.{arith}
 use lib.IntN.{pos}
 use lib.ListN.{length, take}
-use Rattle.gf2.specs.Bytes.{number, bytesOf}
+use Rattle.octets.specs.Numbers.{number, bytesOf}
 use Rattle.answer.specs.Answers.{keyLength, unknownKind, lengthForKind, cutShort, outOfRange}
 use Rattle.frame.specs.declared.position.Position.{Position}
 use Rattle.frame.specs.Position.{positionOf, positionBytes}

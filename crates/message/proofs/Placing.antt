@@ -7,18 +7,19 @@ use borrow.Author.Tests.{eq-eqb, ne-eqb}
 use lib.ListN.{length, take, drop, length-append, length-drop}
 use lib.Seq.{length-take-le, take-at, drop-at, drop-drop}
 use borrow.Rule.Slice.PartMut.{put-same}
-use Rattle.gf2.proofs.Parts.{part-rest, part-home}
+use Rattle.octets.proofs.Parts.{part-rest, part-home}
 use Rattle.answer.proofs.First.{then-refused, then-passed}
-use Rattle.aead.specs.Bytes.{copied}
-use Rattle.aead.proofs.Copy.{copied-fits}
-use Rattle.aead.specs.Calls as calls
-use Rattle.aead.specs.Calls.{written}
-use Rattle.aead.proofs.Refusals.{seal-no-room}
-use Rattle.aead.proofs.Done.{sealable}
-use Rattle.siv.specs.Siv.{sealed, sealAnswer, Seals}
+use Rattle.octets.specs.Strings.{copied}
+use Rattle.octets.proofs.Copies.{copied-fits}
+use Rattle.sealing.specs.Calls as calls
+use Rattle.sealing.specs.Calls.{written}
+use Rattle.sealing.proofs.Refusals.{seal-no-room}
+use Rattle.sealing.proofs.Done.{sealable}
+use Rattle.rfc8452.specs.Siv.{sealed}
+use Rattle.sealing.specs.Siv.{sealAnswer, Seals}
 use Rattle.message.specs.Parts.{adOf, frameOf}
 use Rattle.message.specs.Write.{plainAnswer, writeAnswer, writtenOf, writeOut, Frames, Writes}
-use Rattle.siv.proofs.Sealing.{sealed-length}
+use Rattle.rfc8452.proofs.Sealing.{sealed-length}
 use Rattle.message.proofs.Writing.{ad-length, frame-length}
 
 -- the head: the associated data, and then the nonce behind it

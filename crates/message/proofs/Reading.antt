@@ -9,13 +9,14 @@ use lib.ListN.{length, take, drop, length-drop, drop-of-length-le}
 use lib.Seq.{length-take-le}
 use Rattle.answer.specs.First.{_then_}
 use Rattle.answer.proofs.First.{then-refused, then-passed}
-use Rattle.aead.specs.Bytes.{copied}
-use Rattle.aead.proofs.Copy.{copied-fits}
-use Rattle.aead.specs.Calls as calls
-use Rattle.aead.specs.Calls.{written}
-use Rattle.aead.proofs.Refusals.{open-no-room, open-room}
-use Rattle.aead.proofs.Done.{openable}
-use Rattle.siv.specs.Siv.{authentic, openAnswer, Opens}
+use Rattle.octets.specs.Strings.{copied}
+use Rattle.octets.proofs.Copies.{copied-fits}
+use Rattle.sealing.specs.Calls as calls
+use Rattle.sealing.specs.Calls.{written}
+use Rattle.sealing.proofs.Refusals.{open-no-room, open-room}
+use Rattle.sealing.proofs.Done.{openable}
+use Rattle.rfc8452.specs.Siv.{authentic}
+use Rattle.sealing.specs.Siv.{openAnswer, Opens}
 use Rattle.frame.specs.declared.Front.the-variants.{Whole, Stop}
 use Rattle.frame.specs.Kinds.{isAllowed, maxFramePlaintext}
 use Rattle.frame.specs.Front.{kindOf, sealedLen, takenOf, stopOf, frontOf}

@@ -4,9 +4,9 @@ use mathlib.Core.Path.{_≡_}
 use mathlib.Core.Bool.{true}
 use mathlib.Core.List.{List}
 use lib.ListN.{length}
-use Rattle.aead.proofs.Modes as modes
-use Rattle.siv.specs.Siv.{mask, tag, sealed, opened, authentic}
-use Rattle.siv.proofs.Sealing.{mask-keeps, mask-undoes, tag-sixteen}
+use Rattle.modes.proofs.Modes as modes
+use Rattle.rfc8452.specs.Siv.{mask, tag, sealed, opened, authentic}
+use Rattle.rfc8452.proofs.Sealing.{mask-keeps, mask-undoes, tag-sixteen}
 
 module _ (key nonce ad : List ℕ) where
   pub opened-length : (s : List ℕ) → length (opened key nonce s) ≡ length s - 16

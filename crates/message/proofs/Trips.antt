@@ -8,13 +8,14 @@ use native.Mathlib.Omega.{arith}
 use borrow.Author.Tests.{eq-eqb}
 use lib.ListN.{length, getD, take, drop}
 use lib.Seq.{take-add}
-use Rattle.gf2.specs.Bytes.{bytesOf}
-use Rattle.gf2.proofs.Bytes.{Bytes, cells-part, byte-at}
+use Rattle.octets.specs.Numbers.{bytesOf}
+use Rattle.octets.proofs.Numbers.{Bytes, cells-part, byte-at}
 use Rattle.answer.specs.First.{_then_}
 use Rattle.answer.proofs.First.{then-passed, both-done}
-use Rattle.aead.specs.Calls.{written}
-use Rattle.aead.proofs.Done.{Openable, open-done, openable}
-use Rattle.siv.specs.Siv.{sealed, opened, authentic, openAnswer}
+use Rattle.sealing.specs.Calls.{written}
+use Rattle.sealing.proofs.Done.{Openable, open-done, openable}
+use Rattle.rfc8452.specs.Siv.{sealed, opened, authentic}
+use Rattle.sealing.specs.Siv.{openAnswer}
 use Rattle.frame.specs.declared.Front.the-variants.{Whole}
 use Rattle.frame.specs.Kinds.{isKnown, isAllowed, maxFramePlaintext}
 use Rattle.frame.specs.Front.{kindOf, sealedLen, takenOf, stopOf, frontOf}
@@ -23,7 +24,7 @@ use Rattle.message.specs.Parts.{adOf, frameOf, adIn, nonceIn, sealedIn, 
 use Rattle.message.specs.Message.{contentAnswer, messageOf}
 use Rattle.message.specs.Write.{writeAnswer}
 use Rattle.message.specs.Read.{orRefused, readAnswer, readOf, readOut}
-use Rattle.siv.proofs.Sealing.{sealed-length}
+use Rattle.rfc8452.proofs.Sealing.{sealed-length}
 use Rattle.message.proofs.Sealing.{opened-sealed, authentic-sealed, sealed-opened}
 use Rattle.message.proofs.Writing.{Writable, write-done, writable, short, ad-length, ad-in, nonce-in, len-in, sealed-in, whole-frame}
 use Rattle.message.proofs.Reading.{text-length}

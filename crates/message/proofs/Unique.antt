@@ -2,7 +2,7 @@
 -- leave in the output. Assumes nothing.
 use mathlib.Core.Path.{sym, _∙_}
 use denote.Ref.{now}
-use Rattle.gf2.proofs.Promise.{Unique, UniqueMemory}
+use Rattle.logic.specs.Promise.{Unique, UniqueMemory}
 use Rattle.message.proofs.write.Kinds as write-kinds
 use Rattle.message.proofs.write.Reads as write-reads
 use Rattle.message.proofs.read.Kinds as read-kinds

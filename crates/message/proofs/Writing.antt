@@ -10,13 +10,14 @@ use borrow.Author.Tests.{not-false}
 use lib.Dec.{eqb}
 use lib.ListN.{length, take, drop, length-append}
 use lib.Seq.{take-at, drop-at}
-use Rattle.gf2.specs.Bytes.{bytesOf}
+use Rattle.octets.specs.Numbers.{bytesOf}
 use Rattle.answer.specs.Answers.{done, unknownKind, lengthForKind}
 use Rattle.answer.specs.First.{_⇒_}
 use Rattle.answer.proofs.First.{Passed, Told, all-passed, then-passed, both-done}
-use Rattle.aead.specs.Calls.{written}
-use Rattle.aead.proofs.Done.{seal-done, sealable}
-use Rattle.siv.specs.Siv.{sealed, sealAnswer}
+use Rattle.sealing.specs.Calls.{written}
+use Rattle.sealing.proofs.Done.{seal-done, sealable}
+use Rattle.rfc8452.specs.Siv.{sealed}
+use Rattle.sealing.specs.Siv.{sealAnswer}
 use Rattle.frame.specs.Kinds.{isKnown, isAllowed, maxFramePlaintext}
 use Rattle.frame.specs.Front.{mark, sealedLen}
 use Rattle.frame.proofs.Whole.{IsWhole, whole-is, allowed-bounds}
@@ -24,7 +25,7 @@ use Rattle.frame.proofs.Longest.{IsFrame}
 use Rattle.message.specs.Parts.{header, adOf, frameOf, adIn, nonceIn, sealedIn}
 use Rattle.message.specs.Message.{contentAnswer}
 use Rattle.message.specs.Write.{kindAnswer, plainAnswer, writeAnswer, writtenOf, writeOut}
-use Rattle.siv.proofs.Sealing.{sealed-length}
+use Rattle.rfc8452.proofs.Sealing.{sealed-length}
 
 -- a kind with an allowed length and content, a key of 16 or 32 bytes, a nonce of 12, and room
 pub record Writable (kind : ℕ) (key nonce text : List ℕ) (room : ℕ) : Type 0 where

@@ -2,8 +2,8 @@
 use Prim.Native.Nat.{ℕ, _+_}
 use mathlib.Core.List.{List, _∷_, _++_}
 use lib.ListN.{length, take, drop}
-use Rattle.gf2.specs.Bytes.{bytesOf}
-use Rattle.siv.specs.Siv.{sealed, opened}
+use Rattle.octets.specs.Numbers.{bytesOf}
+use Rattle.rfc8452.specs.Siv.{sealed, opened}
 use Rattle.frame.specs.Front.{mark, sealedLen}
 
 -- "Byte 0: 0x4B. Byte 1: kind. Bytes 2-3: little-endian length of the sealed part."

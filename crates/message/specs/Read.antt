@@ -8,8 +8,8 @@ use lib.ListN.{length}
 use lib.Dec.{eqb}
 use Rattle.answer.specs.Answers.{done}
 use Rattle.answer.specs.First.{_then_}
-use Rattle.aead.specs.Calls.{written}
-use Rattle.siv.specs.Siv.{openAnswer}
+use Rattle.sealing.specs.Calls.{written}
+use Rattle.sealing.specs.Siv.{openAnswer}
 use Rattle.frame.specs.Front.{kindOf, takenOf, stopOf}
 use Rattle.message.specs.declared.Message.{Message}
 use Rattle.message.specs.declared.Message.the-variants.{Refused}

@@ -7,8 +7,8 @@ use lib.ListN.{length}
 use lib.Dec.{eqb}
 use Rattle.answer.specs.Answers.{done, unknownKind, lengthForKind}
 use Rattle.answer.specs.First.{_⇒_, first, _then_}
-use Rattle.aead.specs.Calls.{written}
-use Rattle.siv.specs.Siv.{sealAnswer}
+use Rattle.sealing.specs.Calls.{written}
+use Rattle.sealing.specs.Siv.{sealAnswer}
 use Rattle.frame.specs.Kinds.{isKnown, isAllowed}
 use Rattle.message.specs.declared.Written.{Written}
 use Rattle.message.specs.Parts.{adOf, frameOf}

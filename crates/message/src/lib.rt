@@ -8,8 +8,8 @@ ghost use mathlib.Core.Bool.{true};
 ghost use Prim.Native.Nat.{_+_, _≤_, _<_};
 ghost use mathlib.Core.List.{_++_};
 ghost use lib.ListN.{length, drop};
-ghost use Rattle.aead.specs.Calls.{written};
-ghost use Rattle.siv.specs.Siv.{Opens};
+ghost use Rattle.sealing.specs.Calls.{written};
+ghost use Rattle.sealing.specs.Siv.{Opens};
 ghost use Rattle.frame.specs.declared.Front.the-variants.{Whole};
 ghost use Rattle.frame.specs.Position.{positionOf};
 ghost use Rattle.frame.specs.Kinds.{isAllowed, maxFramePlaintext};
@@ -52,7 +52,7 @@ fn position_in(text: &[u8]) -> Position
     ensures { λ r. ⌜ r ≡ positionOf (now (text .entry)) ⌝ }
 {
     let mut block = [0u8; 16];
-    aead::bytes::copy(text, &mut block);
+    octets::copy(text, &mut block);
     Position::from_bytes(block)
 }
 
@@ -126,8 +126,8 @@ fn put_head(ad: [u8; 4], nonce: &[u8], out: &mut [u8])
     requires { ⌜ (length (now nonce) ≡ 12) × (16 ≤ length (now out)) ⌝ }
     ensures { λ _. ⌜ now (out .exit) ≡ ad ++ (now (nonce .entry) ++ drop 16 (now (out .entry))) ⌝ }
 {
-    aead::bytes::copy(&ad, out);
-    aead::bytes::copy(nonce, &mut out[4..]);
+    octets::copy(&ad, out);
+    octets::copy(nonce, &mut out[4..]);
 }
 
 // Seals a plaintext that may stand into a frame that has room: first the sealed part, behind the place of
@@ -201,7 +201,7 @@ fn put_accepted(answer: u8, text: &[u8], out: &mut [u8])
     ensures { λ _. ⌜ now (out .exit) ≡ written answer (now (text .entry)) (now (out .entry)) ⌝ }
 {
     if answer == answer::DONE {
-        aead::bytes::copy(text, out);
+        octets::copy(text, out);
     }
 }
 

@@ -8,7 +8,7 @@ use native.Mathlib.Omega.{arith}
 use lib.Dec.{lit<, lit≤}
 use lib.ListN.{length, take, drop, take-append-drop, length-drop}
 use lib.Seq.{take-add, take-length, length-take-le}
-use Rattle.gf2.specs.Carryless.{_⊕_}
+use Rattle.octets.specs.Xor.{_⊕_}
 use Rattle.gf2.specs.Polyval.{dot}
 use Rattle.gf2.proofs.Roots.{Elements}
 use Rattle.field.specs.declared.rf.Counted.{Counted}
@@ -18,7 +18,7 @@ use Rattle.field.proofs.Element.{Sized, value-element, value-of, element-value,
 use Rattle.field.proofs.RfProduct.{companion-lt}
 use Rattle.field.proofs.Aggregate.{dotOf, Belong, group-dots}
 use Rattle.polyval.specs.declared.key.Power.{Power}
-use Rattle.polyval.specs.Machine.{run}
+use Rattle.rfc8452.specs.Machine.{run}
 use Rattle.polyval.specs.declared.key.ExpandedKey.{ExpandedKey}
 use Rattle.polyval.specs.declared.route.Route.{Route}
 use Rattle.polyval.specs.declared.route.Route.the-variants.{Wide, Narrow, Rf}
@@ -26,7 +26,7 @@ use Rattle.polyval.specs.Key.{powerCount, powerAt, powersFrom, keyOf, hO
 use Rattle.polyval.specs.Routes.{absorbOn}
 use Rattle.polyval.proofs.Check.{checked}
 use Rattle.polyval.specs.Formulas.{paired, groupOf, groupsOf, rfRun}
-use Rattle.polyval.proofs.Run.{run-lt, run-++}
+use Rattle.rfc8452.proofs.Run.{run-lt, run-++}
 use Rattle.polyval.proofs.Powers.{nth, nth-lt, power-at}
 use Rattle.polyval.proofs.Groups.{group-elements}
 use Rattle.polyval.proofs.Sums.{dots, run-dots}

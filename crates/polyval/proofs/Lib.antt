@@ -1,7 +1,4 @@
 -- The laws that the proofs cite.
-pub mod Run
-pub mod Cut
-pub mod Parts
 pub mod Absorb
 pub mod Powers
 pub mod Check

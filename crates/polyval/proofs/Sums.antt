@@ -3,11 +3,11 @@ use mathlib.Core.Path.{_≡_, sym, ap, _∙_}
 use mathlib.Core.List.{List, [], _∷_}
 use Prim.Native.Nat.{ℕ, suc}
 use lib.ListN.{length}
-use Rattle.gf2.specs.Carryless.{_⊕_}
+use Rattle.octets.specs.Xor.{_⊕_}
 use Rattle.gf2.specs.Polyval.{dot}
-use Rattle.gf2.proofs.Xor.{⊕-zero, ⊕-assoc}
+use Rattle.octets.proofs.Xor.{⊕-zero, ⊕-assoc}
 use Rattle.gf2.proofs.Dot.{dot-comm, dot-assoc, ⊕-dot}
-use Rattle.polyval.specs.Machine.{step, run}
+use Rattle.rfc8452.specs.Machine.{step, run}
 use Rattle.polyval.proofs.Powers.{nth, nth-next}
 
 -- each block times the power that the number of blocks behind it asks

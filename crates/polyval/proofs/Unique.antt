@@ -1,6 +1,6 @@
 -- For each public function, two answers that meet its contract, as the checker reads it, are equal. Assumes nothing.
 use mathlib.Core.Path.{sym, _∙_}
-use Rattle.gf2.proofs.Promise.{Unique}
+use Rattle.logic.specs.Promise.{Unique}
 use Rattle.polyval.proofs.block.pasted.Kinds as pasted-kinds
 use Rattle.polyval.proofs.block.pasted.Reads as pasted-reads
 use Rattle.polyval.proofs.block.block_of.Kinds as block-of-kinds

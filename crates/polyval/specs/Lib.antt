@@ -1,6 +1,4 @@
 -- What the contracts cite.
-pub mod Machine
-pub mod Blocks
 pub mod FirstBlock
 pub mod Key
 pub mod Formulas

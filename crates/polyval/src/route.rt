@@ -7,7 +7,7 @@ use crate::soft;
 use field::rf::Counted;
 ghost use mathlib.Core.Path.{_≡_};
 ghost use Rattle.polyval.specs.declared.route.Route.the-variants.{Wide, Narrow};
-ghost use Rattle.polyval.specs.Blocks.{blocks};
+ghost use Rattle.rfc8452.specs.Blocks.{blocks};
 ghost use Rattle.polyval.specs.Formulas.{inGroups, alone};
 ghost use Rattle.polyval.specs.Routes.{absorbOn};
 

@@ -6,7 +6,7 @@ use native.Mathlib.Numerals.{add-one}
 use native.Mathlib.Omega.{arith}
 use lib.ListN.{length, take, length-append}
 use lib.Seq.{take-suc}
-use Rattle.gf2.proofs.Bytes.{bytesOf-length}
+use Rattle.octets.proofs.Numbers.{bytesOf-length}
 use Rattle.field.specs.Element.{value, element}
 use Rattle.polyval.specs.declared.key.Power.{Power}
 use Rattle.polyval.specs.Key.{powerAt}

@@ -6,8 +6,8 @@ use mathlib.Core.List.{List, [], _∷_, _++_, append-assoc}
 use native.Mathlib.Omega.{arith}
 use lib.ListN.{length, take, drop, length-append, length-drop}
 use lib.Seq.{take-all, take-at, drop-at, take-add, drop-drop, length-take-le}
-use Rattle.gf2.specs.Bytes.{number, bytesOf}
-use Rattle.gf2.proofs.Bytes.{Bytes, bytes-take, bytes-drop, bytesOf-length, number-bytesOf, bytesOf-number}
+use Rattle.octets.specs.Numbers.{number, bytesOf}
+use Rattle.octets.proofs.Numbers.{Bytes, bytes-take, bytes-drop, bytesOf-length, number-bytesOf, bytesOf-number}
 use Rattle.field.specs.declared.field_element.FieldElement.{FieldElement}
 use Rattle.field.specs.Element.{value, element}
 use Rattle.field.proofs.Element.{Sized}

@@ -1,6 +1,6 @@
 -- For each public function, two answers that meet its contract, as the checker reads it, are equal. Assumes nothing.
 use mathlib.Core.Path.{sym, _∙_}
-use Rattle.gf2.proofs.Promise.{Unique}
+use Rattle.logic.specs.Promise.{Unique}
 use Rattle.record.proofs.encode.Kinds as encode-kinds
 use Rattle.record.proofs.encode.Reads as encode-reads
 use Rattle.record.proofs.decode.Kinds as decode-kinds

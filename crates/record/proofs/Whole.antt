@@ -7,14 +7,14 @@ use native.Mathlib.Numerals.{add-one}
 use native.Mathlib.Omega.{arith}
 use lib.ListN.{length, set, take, drop, replicate, length-append, drop-of-length-le}
 use lib.Seq.{paste, take-all, take-suc-set}
-use Rattle.gf2.specs.Bytes.{number, bytesOf}
-use Rattle.gf2.proofs.Bytes.{Bytes, bytes-take, bytes-drop, bytesOf-length, number-lt}
+use Rattle.octets.specs.Numbers.{number, bytesOf}
+use Rattle.octets.proofs.Numbers.{Bytes, bytes-take, bytes-drop, bytesOf-length, number-lt}
 use Rattle.field.specs.declared.field_element.FieldElement.{FieldElement}
 use Rattle.field.specs.Element.{value, element}
 use Rattle.polyval.specs.declared.key.Power.{Power}
 use Rattle.polyval.specs.Key.{powerCount}
 use Rattle.hash.specs.declared.Hash.{Hash}
-use Rattle.place.specs.Put.{Wrote}
+use Rattle.octets.specs.Places.{Wrote}
 use Rattle.record.specs.Bytes.{elementBytes, powersBytes, recordBytes, recordSize, powerIn, powersAt}
 use Rattle.record.proofs.Powers.{powers-length}
 

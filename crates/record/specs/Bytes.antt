@@ -3,7 +3,7 @@
 use Prim.Native.Nat.{ℕ, zero, suc, _+_, _*_}
 use mathlib.Core.List.{List, [], _∷_, _++_}
 use lib.ListN.{take, drop}
-use Rattle.gf2.specs.Bytes.{number, bytesOf}
+use Rattle.octets.specs.Numbers.{number, bytesOf}
 use Rattle.field.specs.declared.field_element.FieldElement.{FieldElement}
 use Rattle.field.specs.Element.{value, element}
 use Rattle.polyval.specs.declared.key.Power.{Power}

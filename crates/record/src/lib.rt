@@ -10,8 +10,8 @@ ghost use mathlib.Core.Path.{_≡_};
 ghost use mathlib.Core.List.{[], _∷_};
 ghost use Prim.Native.Nat.{_+_, _*_, _≤_};
 ghost use lib.ListN.{length};
-ghost use Rattle.gf2.specs.Bytes.{bytesOf};
-ghost use Rattle.place.specs.Put.{Wrote};
+ghost use Rattle.octets.specs.Numbers.{bytesOf};
+ghost use Rattle.octets.specs.Places.{Wrote};
 ghost use Rattle.polyval.specs.Key.{powerCount};
 ghost use Rattle.record.specs.Bytes.{powersBytes, recordBytes, keySize, powerIn, powersAt, recordOf};
 
@@ -27,7 +27,7 @@ fn put_block(out: &mut [u8], at: usize, b: [u8; 16]) -> usize
     ensures { λ r. ⌜ Wrote (now (out .entry)) at b (now (out .exit)) r ⌝ }
     ensures { λ r. ⌜ r ≡ at + 16 ⌝ }
 {
-    place::put(out, at, &b)
+    octets::put(out, at, &b)
 }
 
 // A power and its D value at a place.
@@ -66,7 +66,7 @@ fn put_count(out: &mut [u8], at: usize, n: usize) -> usize
         lo: n as u64,
         hi: 0,
     }.to_bytes();
-    place::put(out, at, &b[..8])
+    octets::put(out, at, &b[..8])
 }
 
 // The record as bytes.

@@ -64,6 +64,6 @@ pub(crate) fn answer(code: usize, arena: &[u8], slots: &[u64], space: &mut [u8])
     let a = words::element(arena, slots, 0);
     let b = words::element(arena, slots, 1);
     let said = on_elements(code, a, b).to_bytes();
-    aead::bytes::copy(&said, space);
+    octets::copy(&said, space);
     Said::numbers(0, 0, 0)
 }

@@ -21,7 +21,7 @@ const REFUSED: usize = 3;
 fn ghash_of(arena: &[u8], slots: &[u64], space: &mut [u8]) -> Said {
     let hashed = ghash::ghash(words::bytes(arena, slots, 0), words::bytes(arena, slots, 1));
     let tag = hashed.tag;
-    aead::bytes::copy(&tag, space);
+    octets::copy(&tag, space);
     Said::numbers(hashed.answer as u64, 0, 0)
 }
 
@@ -29,7 +29,7 @@ fn ghash_of(arena: &[u8], slots: &[u64], space: &mut [u8]) -> Said {
 fn encrypt(arena: &[u8], slots: &[u64], space: &mut [u8]) -> Said {
     let cipher = Cipher::under(words::bytes(arena, slots, 0));
     let b = cipher.encrypt(words::block(words::bytes(arena, slots, 1)));
-    aead::bytes::copy(&b, space);
+    octets::copy(&b, space);
     Said::numbers(0, 0, 0)
 }
 
@@ -38,7 +38,7 @@ fn scan(log: &[u8], space: &mut [u8]) -> Said {
     let mut frames: u64 = 0;
     let mut stop: u8 = 0;
     let prefix = frame::scan(log, &mut frames, &mut stop);
-    aead::bytes::copy(prefix, space);
+    octets::copy(prefix, space);
     Said::numbers(frames, stop as u64, 0).with_room(prefix.len())
 }
 

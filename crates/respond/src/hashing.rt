@@ -14,7 +14,7 @@ use polyval::route::Route;
 // The record that bytes spell, as far as they go: the key, the element, what is pending. It counts none of that.
 fn stored(s: &[u8]) -> Hash {
     let mut b = [0u8; record::RECORD_SIZE];
-    aead::bytes::copy(s, &mut b);
+    octets::copy(s, &mut b);
     record::decode(b)
 }
 
@@ -54,7 +54,7 @@ fn expand(h: FieldElement, space: &mut [u8]) -> Said {
         pending: [0u8; 16],
         count: 0,
     });
-    aead::bytes::copy(&b, space);
+    octets::copy(&b, space);
     Said::numbers(e.multiplies, 0, 0)
 }
 
@@ -79,7 +79,7 @@ fn feed(code: usize, h: Hash, route: Route, s: &[u8]) -> Fed {
 // An answer with the record that was made, and what was spent on it.
 fn made(answer: u8, h: Hash, spent: u64, space: &mut [u8]) -> Said {
     let b = record::encode(h);
-    aead::bytes::copy(&b, space);
+    octets::copy(&b, space);
     Said::numbers(answer as u64, h.count as u64, spent)
 }
 
@@ -98,7 +98,7 @@ fn joined(j: Joined, space: &mut [u8]) -> Said {
 // What finish says: its tag lies in the space.
 fn finished(f: Finished, space: &mut [u8]) -> Said {
     let tag = f.tag;
-    aead::bytes::copy(&tag, space);
+    octets::copy(&tag, space);
     Said::numbers(f.answer as u64, f.multiplies, 0)
 }
 

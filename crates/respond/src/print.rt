@@ -80,7 +80,7 @@ fn is_number(letter: u8) -> bool {
 fn text(out: &mut [u8], at: usize, s: &[u8]) -> usize {
     if at <= out.len() {
         if s.len() <= out.len() - at {
-            aead::bytes::copy(s, &mut out[at..]);
+            octets::copy(s, &mut out[at..]);
             return at + s.len();
         }
     }

@@ -15,7 +15,7 @@ struct Reading {
 fn keep(s: &[u8], line: &mut [u8], have: usize) -> usize {
     if have <= line.len() {
         if s.len() <= line.len() - have {
-            aead::bytes::copy(s, &mut line[have..]);
+            octets::copy(s, &mut line[have..]);
             return have + s.len();
         }
     }

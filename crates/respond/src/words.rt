@@ -297,7 +297,7 @@ pub(crate) fn number(slots: &[u64], i: usize) -> u64 {
 // The first 16 bytes of s, zeros where there are fewer.
 pub(crate) fn block(s: &[u8]) -> [u8; 16] {
     let mut b = [0u8; 16];
-    aead::bytes::copy(s, &mut b);
+    octets::copy(s, &mut b);
     b
 }
 

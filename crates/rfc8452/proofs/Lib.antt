@@ -1,5 +1,6 @@
--- Laws that the functions' proofs share, and that no contract leaves a choice.
-pub mod Counting
-pub mod Deriving
-pub mod Hashing
-pub mod Unique
+-- Laws of the definitions.
+pub mod Run
+pub mod Cut
+pub mod Parts
+pub mod Reversed
+pub mod Sealing

@@ -3,8 +3,8 @@ use Prim.Native.Nat.{ℕ, _+_, _%_, _^_}
 use mathlib.Core.List.{List, _++_}
 use lib.Bits.{bitOr}
 use lib.ListN.{getD, set, take, drop}
-use Rattle.gf2.specs.Bytes.{number, bytesOf}
-use Rattle.aead.specs.Stream.{masked}
+use Rattle.octets.specs.Numbers.{number, bytesOf}
+use Rattle.modes.specs.Stream.{masked}
 
 -- the first: "counter_block = tag; counter_block[15] |= 0x80"
 unfoldable pub counterBlock : (tag : List ℕ) → List ℕ

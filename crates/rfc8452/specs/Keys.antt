@@ -1,15 +1,11 @@
 -- The keys of one message, RFC 8452 section 4, "derive_keys". Assumes nothing.
 use Prim.Native.Nat.{ℕ}
-use mathlib.Core.Path.{_≡_}
 use mathlib.Core.Bool.{cond}
 use mathlib.Core.List.{List, _++_}
 use lib.Dec.{eqb}
 use lib.ListN.{length, take}
-use Rattle.gf2.specs.Bytes.{number, bytesOf}
+use Rattle.octets.specs.Numbers.{bytesOf}
 use Rattle.fips197.specs.Aes.{aes}
-use Rattle.field.specs.Element.{value, element}
-use Rattle.aead.specs.Cipher.{encrypted, shortCipher, longCipher, cipherUnder}
-use Rattle.rfc8452.specs.declared.keys.Keys.{Keys}
 
 -- "AES(key = key_generating_key, block = little_endian_uint32(i) ++ nonce)[:8]"
 abbrev pub derivedBy : (cipher : List ℕ → List ℕ) (nonce : List ℕ) (i : ℕ) → List ℕ
@@ -27,11 +23,3 @@ hashKey key nonce = pairBy (aes key) nonce 0 1
 unfoldable pub cipherKey : (key nonce : List ℕ) → List ℕ
 cipherKey key nonce =
     cond (eqb (length key) 32) (pairBy (aes key) nonce 2 3 ++ pairBy (aes key) nonce 4 5) (pairBy (aes key) nonce 2 3)
-
--- the keys as code holds them, for any given key: the hash key as a field element with all of its number, and the cipher with its schedule
-pub record Derives (key nonce : List ℕ) (k : Keys) : Type 0 where
-  pub hash : k .hash ≡ element (number (pairBy (encrypted (cipherUnder key)) nonce 0 1))
-  pub whole : value (k .hash) ≡ number (pairBy (encrypted (cipherUnder key)) nonce 0 1)
-  pub cipher : k .cipher ≡ cond (eqb (length key) 32)
-      (longCipher (pairBy (encrypted (cipherUnder key)) nonce 2 3 ++ pairBy (encrypted (cipherUnder key)) nonce 4 5))
-      (shortCipher (pairBy (encrypted (cipherUnder key)) nonce 2 3))

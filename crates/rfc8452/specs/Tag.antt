@@ -3,10 +3,10 @@ use Prim.Native.Nat.{ℕ, _*_}
 use mathlib.Core.List.{List, _++_}
 use lib.Bits.{bitAnd}
 use lib.ListN.{length, getD, set}
-use Rattle.gf2.specs.Bytes.{bytesOf}
-use Rattle.polyval.specs.Machine.{polyval}
-use Rattle.polyval.specs.Blocks.{blocks}
-use Rattle.aead.specs.Bytes.{xorBytes}
+use Rattle.octets.specs.Numbers.{bytesOf}
+use Rattle.rfc8452.specs.Machine.{polyval}
+use Rattle.rfc8452.specs.Blocks.{blocks}
+use Rattle.octets.specs.Strings.{xorBytes}
 
 -- "length_block = little_endian_uint64(len(additional_data) * 8) ++ little_endian_uint64(len(plaintext) * 8)"
 abbrev pub lengthBlock : (ad text : ℕ) → List ℕ

@@ -5,7 +5,7 @@ use mathlib.Core.List.{List, [], _∷_, _++_, append-assoc, append-nil}
 use mathlib.Core.Bool.{true, false}
 use lib.ListN.{length, getD, take}
 use Rattle.show.specs.Escapes.{plain, hexEscape, shown, escaped}
-use Rattle.place.proofs.Written.{take-more}
+use Rattle.octets.proofs.Places.{take-more}
 
 -- a byte, by the test of the code
 pub shown-plain : (b : ℕ) → plain b ≡ true → b ∷ [] ≡ shown b

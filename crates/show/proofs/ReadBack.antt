@@ -8,7 +8,7 @@ use native.Mathlib.Omega.{arith}
 use borrow.Author.Tests.{lt-ltb, le-ltb, ltb-true, ltb-false}
 use lib.Dec.{ltb, leb, eqb}
 use lib.ListN.{length, getD, drop}
-use Rattle.gf2.proofs.Bytes.{Bytes}
+use Rattle.octets.proofs.Numbers.{Bytes}
 use Rattle.show.specs.Escapes.{plain, hexDigit, hexEscape, shown, escaped}
 
 unfoldable hexValue : ℕ → ℕ

@@ -8,7 +8,7 @@ use native.Mathlib.Omega.{arith}
 use borrow.Author.Tests.{le-leb, lt-leb, leb-true, leb-false}
 use lib.Dec.{leb}
 use lib.ListN.{length, drop, length-append}
-use Rattle.place.specs.Put.{Wrote}
+use Rattle.octets.specs.Places.{Wrote}
 use Rattle.show.specs.Lines.{roomFor, Line}
 
 -- by quarters

@@ -8,7 +8,7 @@ use native.Mathlib.Omega.{arith}
 use borrow.Author.Tests.{ltb-true, leb-true}
 use lib.Dec.{ltb, leb, eqb}
 use lib.IntN.{ℤ, pos, negsuc, natAbs}
-use Rattle.gf2.proofs.Bytes.{Bytes}
+use Rattle.octets.proofs.Numbers.{Bytes}
 use Rattle.show.specs.Ascii.{ascii}
 use Rattle.show.specs.Numbers.{lastDigit, leading, decimal, digits, sign, fixed}
 use Rattle.show.specs.Escapes.{plain, hexDigit, hexEscape, shown, escaped}

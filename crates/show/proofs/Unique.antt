@@ -2,7 +2,7 @@
 -- leave in the lent buffer. Assumes nothing.
 use mathlib.Core.Path.{sym, _∙_}
 use denote.Ref.{now}
-use Rattle.gf2.proofs.Promise.{Unique, UniqueMemory}
+use Rattle.logic.specs.Promise.{Unique, UniqueMemory}
 use Rattle.show.proofs.line.Kinds as line-kinds
 use Rattle.show.proofs.line.Reads as line-reads
 use Rattle.show.proofs.position_line.Kinds as position-line-kinds

@@ -7,7 +7,7 @@ ghost use Prim.Native.Nat.{_+_, _*_, _%_, _^_, _≤_, _<_};
 ghost use lib.ListN.{length};
 ghost use lib.IntN.{natAbs};
 ghost use lib.Dec.{leb};
-ghost use Rattle.place.specs.Put.{Wrote};
+ghost use Rattle.octets.specs.Places.{Wrote};
 ghost use Rattle.show.specs.Numbers.{lastDigit, decimal, digits, sign, fixed};
 ghost use Rattle.show.specs.Escapes.{plain, hexDigit, hexEscape, shown, escaped};
 ghost use Rattle.show.specs.Lines.{headOf, lineOf, anglesOf, heightOf, positionLineOf, stopOf, stopLineOf, roomFor, Line};
@@ -31,7 +31,7 @@ fn put_word(out: &mut [u8], at: usize, word: &[u8]) -> usize
     requires { ⌜ at + length (now word) ≤ length (now out) ⌝ }
     ensures { λ r. ⌜ Wrote (now (out .entry)) at (now (word .entry)) (now (out .exit)) r ⌝ }
 {
-    place::put(out, at, word)
+    octets::put(out, at, word)
 }
 
 // The last digit of n.

@@ -6,12 +6,13 @@ use mathlib.Core.List.{List, _++_}
 use native.Mathlib.Omega.{arith}
 use lib.ListN.{length, drop}
 use Rattle.answer.specs.Answers.{tagDiffers}
-use Rattle.aead.specs.Calls as calls
-use Rattle.aead.specs.Mode.{bodyOf}
-use Rattle.aead.proofs.Refusals.{refused-early, refused-by-tag}
-use Rattle.aead.proofs.Written.{written-done, written-refused}
-use Rattle.siv.specs.Siv.{sealed, opened, authentic, sealAnswer, openAnswer, Seals, Opens}
-use Rattle.siv.proofs.Sealing.{sealed-length, opened-length}
+use Rattle.sealing.specs.Calls as calls
+use Rattle.modes.specs.Mode.{bodyOf}
+use Rattle.sealing.proofs.Refusals.{refused-early, refused-by-tag}
+use Rattle.sealing.proofs.Written.{written-done, written-refused}
+use Rattle.rfc8452.specs.Siv.{sealed, opened, authentic}
+use Rattle.sealing.specs.Siv.{sealAnswer, openAnswer, Seals, Opens}
+use Rattle.rfc8452.proofs.Sealing.{sealed-length, opened-length}
 
 module _ (key nonce ad text out : List ℕ) where
   pub seals-refused : (r : ℕ) → r ≡ sealAnswer key nonce ad text (length out) → (r ≡ 0 → ⊥) → Seals key nonce ad text out r out

@@ -2,7 +2,7 @@
 -- lent output. Assumes nothing.
 use mathlib.Core.Path.{sym, _∙_}
 use denote.Ref.{now}
-use Rattle.gf2.proofs.Promise.{Unique, UniqueMemory}
+use Rattle.logic.specs.Promise.{Unique, UniqueMemory}
 use Rattle.siv.proofs.seal.Kinds as seal-kinds
 use Rattle.siv.proofs.seal.Reads as seal-reads
 use Rattle.siv.proofs.open.Kinds as open-kinds

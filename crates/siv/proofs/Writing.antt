@@ -5,9 +5,9 @@ use mathlib.Core.List.{List, _++_, append-assoc}
 use native.Mathlib.Omega.{arith}
 use lib.ListN.{length, take, drop, length-drop}
 use lib.Seq.{take-at, drop-at, drop-drop}
-use Rattle.gf2.proofs.Parts.{part-rest, part-home}
-use Rattle.aead.specs.Bytes.{copied}
-use Rattle.aead.proofs.Copy.{copied-fits}
+use Rattle.octets.proofs.Parts.{part-rest, part-home}
+use Rattle.octets.specs.Strings.{copied}
+use Rattle.octets.proofs.Copies.{copied-fits}
 
 -- x has the text in front; its first bytes are changed through a part
 pub changed-front : (f : List ℕ → List ℕ) (text d x y : List ℕ) → length text ≤ length d → x ≡ copied text d → y ≡ f (take (length text) x)

@@ -1,22 +1,21 @@
 // AES-GCM-SIV, RFC 8452 sections 4 and 5: sealing and opening with keys of 16 and 32 bytes.
-use aead::bytes;
 use aead::cipher::Cipher;
 use aead::lengths;
-use rfc8452::counter;
-use rfc8452::keys;
-use rfc8452::keys::Keys;
-use rfc8452::tag;
+use siv_parts::counter;
+use siv_parts::keys;
+use siv_parts::keys::Keys;
+use siv_parts::tag;
 ghost use mathlib.Core.Path.{_≡_};
 ghost use mathlib.Core.List.{_++_};
 ghost use Prim.Native.Nat.{_+_, _≤_};
 ghost use lib.ListN.{length, drop};
 ghost use Rattle.field.specs.Element.{value};
-ghost use Rattle.aead.specs.Bytes.{sameBytes};
-ghost use Rattle.aead.specs.Mode.{sealedBy, tagOf};
+ghost use Rattle.octets.specs.Strings.{sameBytes};
+ghost use Rattle.modes.specs.Mode.{sealedBy, tagOf};
 ghost use Rattle.aead.specs.Cipher.{encrypted};
 ghost use Rattle.rfc8452.specs.Counter.{maskUnder};
 ghost use Rattle.rfc8452.specs.Tag.{tagUnder};
-ghost use Rattle.siv.specs.Siv.{Seals, Opens};
+ghost use Rattle.sealing.specs.Siv.{Seals, Opens};
 
 // The nonce as an array.
 fn nonce_of(nonce: &[u8]) -> [u8; 12]
@@ -24,7 +23,7 @@ fn nonce_of(nonce: &[u8]) -> [u8; 12]
     ensures { λ r. ⌜ r ≡ now (nonce .entry) ⌝ }
 {
     let mut n = [0u8; 12];
-    bytes::copy(nonce, &mut n);
+    octets::copy(nonce, &mut n);
     n
 }
 
@@ -35,7 +34,7 @@ fn tag_in(sealed: &[u8]) -> [u8; 16]
 {
     let mut t = [0u8; 16];
     let at = sealed.len() - 16;
-    bytes::copy(&sealed[at..], &mut t);
+    octets::copy(&sealed[at..], &mut t);
     t
 }
 
@@ -44,7 +43,7 @@ fn put_masked(cipher: Cipher, tag: [u8; 16], text: &[u8], out: &mut [u8])
     requires { ⌜ length (now text) ≤ length (now out) ⌝ }
     ensures { λ _. ⌜ now (out .exit) ≡ maskUnder (encrypted cipher) tag (now (text .entry)) ++ drop (length (now (text .entry))) (now (out .entry)) ⌝ }
 {
-    bytes::copy(text, out);
+    octets::copy(text, out);
     let n = text.len();
     counter::mask(cipher, counter::counter_block(tag), &mut out[..n]);
 }
@@ -58,14 +57,14 @@ fn put_sealed(keys: Keys, nonce: [u8; 12], ad: &[u8], text: &[u8], out: &mut [u8
     let cipher = keys.cipher;
     put_masked(cipher, t, text, out);
     let n = text.len();
-    bytes::copy(&t, &mut out[n..]);
+    octets::copy(&t, &mut out[n..]);
 }
 
 // Whether the text that a body hides has the tag that came with it. It is not lent the output.
 fn is_authentic(keys: Keys, nonce: [u8; 12], ad: &[u8], body: &[u8], tag: [u8; 16]) -> bool
     ensures { λ r. ⌜ r ≡ sameBytes (tagUnder (value (keys .hash)) (encrypted (keys .cipher)) nonce (now (ad .entry)) (maskUnder (encrypted (keys .cipher)) tag (now (body .entry)))) tag ⌝ }
 {
-    bytes::same_tag(tag::body_tag(keys, nonce, ad, tag, body), tag)
+    octets::same_tag(tag::body_tag(keys, nonce, ad, tag, body), tag)
 }
 
 // Seals a plaintext: out gets the ciphertext and the tag. Answers 0, or 1, 2, 4, 5, 7 with out as it was.

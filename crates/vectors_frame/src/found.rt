@@ -90,7 +90,7 @@ fn change(s: &mut [u8], i: usize) {
 // The answer to a frame with another byte at a place. What stands behind it plays no part.
 fn damaged_at(f: &[u8], i: usize) -> u8 {
     let mut other = marked();
-    aead::bytes::copy(f, &mut other);
+    octets::copy(f, &mut other);
     change(&mut other, i);
     answer_to(&other)
 }

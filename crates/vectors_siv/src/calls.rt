@@ -1,5 +1,4 @@
 // The calls on one vector: its fields stand one behind the other, and the cuts say where each ends.
-use aead::bytes;
 
 // What every byte of an output is before a call.
 const MARK: u8 = 0xa5;
@@ -72,7 +71,7 @@ fn change(s: &mut [u8], i: usize) {
 // With byte i changed the tag differs, and nothing is written.
 pub(crate) fn refuses(fields: &[u8], cuts: [usize; 5], i: usize) -> bool {
     let mut changed = [0u8; 256];
-    bytes::copy(fields, &mut changed);
+    octets::copy(fields, &mut changed);
     change(&mut changed, i);
     let mut out = [MARK; 100];
     open_with(&changed, cuts, &mut out) == answer::TAG_DIFFERS && is_marked(&out, 0)

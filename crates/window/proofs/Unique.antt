@@ -2,7 +2,7 @@
 -- leave in the window. Assumes nothing.
 use mathlib.Core.Path.{sym, _∙_}
 use denote.Ref.{now}
-use Rattle.gf2.proofs.Promise.{Unique, UniqueMemory}
+use Rattle.logic.specs.Promise.{Unique, UniqueMemory}
 use Rattle.window.proofs.next_step.Kinds as next-step-kinds
 use Rattle.window.proofs.next_step.Reads as next-step-reads
 use Rattle.window.proofs.slide.Kinds as slide-kinds

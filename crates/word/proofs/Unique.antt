@@ -1,6 +1,6 @@
 -- For each public function, two answers that meet its contract, as the checker reads it, are equal. Assumes nothing.
 use mathlib.Core.Path.{sym, _∙_}
-use Rattle.gf2.proofs.Promise.{Unique}
+use Rattle.logic.specs.Promise.{Unique}
 use Rattle.word.proofs.wrapping_mul64.Kinds as wrapping-mul64-kinds
 use Rattle.word.proofs.wrapping_mul64.Reads as wrapping-mul64-reads
 use Rattle.word.proofs.wrapping_mul32.Kinds as wrapping-mul32-kinds

@@ -1,6 +1,7 @@
 -- `aes_tables::sbox_table` meets its contract: antt computes the inverse and the affine map at each of the 256 bytes, and compares. Assumes nothing.
 use mathlib.Core.Path.{refl}
-use Rattle.gf2.specs.Carryless.{_⊕_, clmulN, clmul}
+use Rattle.octets.specs.Xor.{_⊕_}
+use Rattle.gf2.specs.Carryless.{clmulN, clmul}
 use Rattle.gf2.specs.Remainder.{timesX, remainderN, remainder}
 use Rattle.fips197.specs.Field.{gmul, powers, inverse}
 use Rattle.fips197.specs.Sbox.{affine, sbox, sboxTable}

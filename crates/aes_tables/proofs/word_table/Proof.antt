@@ -1,8 +1,9 @@
 -- `aes_tables::word_table` meets its contract: antt computes the S-box at each of the 256 bytes and compares it with row 1 of the word,
 -- and makes each word anew from its row 1. Assumes nothing.
 use mathlib.Core.Path.{refl}
-use Rattle.gf2.specs.Bytes.{number}
-use Rattle.gf2.specs.Carryless.{_⊕_, clmulN, clmul}
+use Rattle.octets.specs.Numbers.{number}
+use Rattle.octets.specs.Xor.{_⊕_}
+use Rattle.gf2.specs.Carryless.{clmulN, clmul}
 use Rattle.gf2.specs.Remainder.{timesX, remainderN, remainder}
 use Rattle.fips197.specs.Field.{gmul, powers, inverse}
 use Rattle.fips197.specs.Sbox.{affine, sbox, sboxTable}

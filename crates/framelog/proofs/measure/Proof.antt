@@ -1,7 +1,7 @@
 -- `framelog::measure` meets its contract. Assumes nothing.
 use Prim.Native.Nat.{_+_, _-_, _≤_}
 use borrow.Author.Needs.{needs}
-use Rattle.answer.specs.Limits.{maxLog}
+use Rattle.sealing.specs.Limits.{maxLog}
 use Rattle.framelog.proofs.measure.Statement.{statement}
 use Rattle.framelog.proofs.measure.Tie as tie
 

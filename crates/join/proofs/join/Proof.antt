@@ -7,7 +7,7 @@ use lib.Dec.{ltb}
 use lib.ListN.{replicate}
 use borrow.Author.Tests.{lt-ltb, le-ltb, not-true, not-false}
 use Rattle.answer.specs.Answers.{done, badRecord}
-use Rattle.gf2.specs.Carryless.{_⊕_}
+use Rattle.octets.specs.Xor.{_⊕_}
 use Rattle.field.specs.Element.{value, element}
 use Rattle.field.proofs.Element.{Sized, value-lt, value-of}
 use Rattle.polyval.specs.Key.{hOf, sameElement}

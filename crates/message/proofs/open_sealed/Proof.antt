@@ -5,7 +5,7 @@ use native.Mathlib.Omega.{arith}
 use borrow.Author.Needs.{needs}
 use lib.ListN.{take, drop}
 use lib.Seq.{length-take-le}
-use Rattle.siv.specs.Siv.{Opens}
+use Rattle.sealing.specs.Siv.{Opens}
 use Rattle.frame.specs.Front.{sealedLen}
 use Rattle.message.specs.Parts.{adIn, nonceIn}
 use Rattle.message.proofs.open_sealed.Statement.{statement}

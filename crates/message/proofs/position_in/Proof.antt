@@ -3,7 +3,7 @@ use mathlib.Core.Path.{_∙_, ap}
 use native.Mathlib.Omega.{arith}
 use borrow.Author.Needs.{needs}
 use lib.ListN.{replicate}
-use Rattle.aead.proofs.Copy.{copied-fills}
+use Rattle.octets.proofs.Copies.{copied-fills}
 use Rattle.frame.specs.Position.{positionOf}
 use Rattle.message.proofs.position_in.Statement.{statement}
 use Rattle.message.proofs.position_in.Tie as tie

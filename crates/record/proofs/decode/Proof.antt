@@ -6,7 +6,7 @@ use lib.ListN.{length, getD, take, drop, length-drop}
 use mir.Syntax.{w8}
 use mir.Val.{Fits}
 use lib.Seq.{length-take-le}
-use Rattle.gf2.proofs.Bytes.{Bytes, bytes-from}
+use Rattle.octets.proofs.Numbers.{Bytes, bytes-from}
 use Rattle.record.specs.Bytes.{keySize, recordSize, recordOf}
 use Rattle.record.proofs.Whole.{pending-is, count-is}
 use borrow.Author.Needs.{needs}

@@ -6,7 +6,7 @@ use Rattle.polyval.specs.Key.{powerCount}
 use mathlib.Core.Path.{refl}
 use mathlib.Core.List.{append-assoc}
 use native.Mathlib.Omega.{arith}
-use Rattle.place.proofs.Written.{then, wrote-as}
+use Rattle.octets.proofs.Places.{then, wrote-as}
 use Rattle.record.specs.Bytes.{recordBytes}
 use Rattle.record.proofs.Whole.{whole-record}
 use borrow.Author.Needs.{needs}

@@ -3,7 +3,7 @@ use Prim.Native.Nat.{ℕ, _+_}
 use mathlib.Core.Path.{_≡_, ap, _∙_}
 use native.Mathlib.Omega.{arith}
 use lib.ListN.{length}
-use Rattle.place.proofs.Written.{put-wrote}
+use Rattle.octets.proofs.Places.{put-wrote}
 use borrow.Author.Needs.{needs}
 use Rattle.record.proofs.put_block.Statement.{statement}
 use Rattle.record.proofs.put_block.Tie as tie

@@ -3,8 +3,8 @@ use mathlib.Core.Path.{_≡_, refl, sym, ap, _∙_}
 use native.Mathlib.Omega.{arith}
 use lib.ListN.{length, take}
 use lib.Seq.{length-take-le}
-use Rattle.gf2.proofs.Bytes.{bytesOf-length}
-use Rattle.place.proofs.Written.{wrote-as, put-wrote}
+use Rattle.octets.proofs.Numbers.{bytesOf-length}
+use Rattle.octets.proofs.Places.{wrote-as, put-wrote}
 use Rattle.record.proofs.Whole.{eight}
 use borrow.Author.Needs.{needs}
 use Rattle.record.proofs.put_count.Statement.{statement}

@@ -1,6 +1,6 @@
 -- `record::put_power` meets its contract. Assumes nothing.
 use native.Mathlib.Omega.{arith}
-use Rattle.place.proofs.Written.{then, wrote-as}
+use Rattle.octets.proofs.Places.{then, wrote-as}
 use Rattle.record.proofs.Powers.{one-power}
 use borrow.Author.Needs.{needs}
 use Rattle.record.proofs.put_power.Statement.{statement}

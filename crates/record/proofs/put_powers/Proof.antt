@@ -5,8 +5,8 @@ use borrow.Author.Needs.{needs}
 use native.Mathlib.Omega.{arith}
 use lib.ListN.{length, take}
 use lib.Seq.{take-all}
-use Rattle.place.specs.Put.{Wrote}
-use Rattle.place.proofs.Written.{wrote-none, then, wrote-as}
+use Rattle.octets.specs.Places.{Wrote}
+use Rattle.octets.proofs.Places.{wrote-none, then, wrote-as}
 use Rattle.polyval.specs.Key.{powerCount}
 use Rattle.record.specs.Bytes.{powersBytes, keySize}
 use Rattle.record.proofs.Powers.{one-more}

@@ -2,7 +2,7 @@
 use mathlib.Core.Path.{ap, _∙_}
 use native.Mathlib.Omega.{arith}
 use lib.ListN.{length}
-use Rattle.place.proofs.Written.{then, wrote-as}
+use Rattle.octets.proofs.Places.{then, wrote-as}
 use Rattle.show.proofs.Decimals.{decimal-small, decimal-more, decimal-longer}
 use Prim.Native.Nat.{ℕ, _<_}
 use borrow.Fn.Kinds.{In}

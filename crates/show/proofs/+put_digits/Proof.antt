@@ -2,7 +2,7 @@
 use Prim.Native.Nat.{_-_, _/_}
 use mathlib.Core.Path.{_∙_}
 use native.Mathlib.Omega.{arith}
-use Rattle.place.proofs.Written.{wrote-none, then, wrote-as}
+use Rattle.octets.proofs.Places.{wrote-none, then, wrote-as}
 use Rattle.show.proofs.Decimals.{digits-none, digits-more, digits-length}
 use Prim.Native.Nat.{ℕ, _<_}
 use borrow.Fn.Kinds.{In}

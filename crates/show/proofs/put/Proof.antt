@@ -1,7 +1,7 @@
 -- `show::put` meets its contract. Assumes nothing.
 use borrow.Author.Needs.{needs}
 use native.Mathlib.Omega.{arith}
-use Rattle.place.proofs.Written.{wrote-one}
+use Rattle.octets.proofs.Places.{wrote-one}
 use Rattle.show.proofs.put.Statement.{statement}
 use Rattle.show.proofs.put.Tie as tie
 

@@ -6,8 +6,8 @@ use borrow.Author.Needs.{needs}
 use lib.ListN.{length, take}
 use lib.Seq.{take-all}
 use Rattle.show.specs.Escapes.{escaped}
-use Rattle.place.specs.Put.{Wrote}
-use Rattle.place.proofs.Written.{wrote-none, then, wrote-as}
+use Rattle.octets.specs.Places.{Wrote}
+use Rattle.octets.proofs.Places.{wrote-none, then, wrote-as}
 use Rattle.show.proofs.Escapes.{escaped-more}
 use Rattle.show.proofs.put_escaped.Statement.{statement}
 use Rattle.show.proofs.put_escaped.Tie as tie

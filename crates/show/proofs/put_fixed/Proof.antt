@@ -6,7 +6,7 @@ use native.Mathlib.Omega.{arith}
 use lib.Dec.{lit≤}
 use mir.Facts.{toZ-ofZ}
 use Rattle.show.specs.Numbers.{fixed}
-use Rattle.place.proofs.Written.{then, wrote-as}
+use Rattle.octets.proofs.Places.{then, wrote-as}
 use Rattle.show.proofs.Decimals.{digits-length}
 use Rattle.show.proofs.Fixed.{pieces}
 use borrow.Author.Needs.{needs}

@@ -2,7 +2,7 @@
 use native.Mathlib.Omega.{arith}
 use mir.Facts.{toZ-ofZ}
 use Rattle.show.proofs.Lines.{height-row}
-use Rattle.place.proofs.Written.{then, wrote-as}
+use Rattle.octets.proofs.Places.{then, wrote-as}
 use borrow.Author.Needs.{needs}
 use Rattle.show.proofs.put_height.Statement.{statement}
 use Rattle.show.proofs.put_height.Tie as tie

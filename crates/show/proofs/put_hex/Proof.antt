@@ -1,6 +1,6 @@
 -- `show::put_hex` meets its contract. Assumes nothing.
 use mathlib.Core.List.{[], _∷_}
-use Rattle.place.proofs.Written.{wrote-as}
+use Rattle.octets.proofs.Places.{wrote-as}
 use borrow.Author.Needs.{needs}
 use Rattle.show.proofs.put_hex.Statement.{statement}
 use Rattle.show.proofs.put_hex.Tie as tie

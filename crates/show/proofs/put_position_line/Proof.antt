@@ -3,7 +3,7 @@ use native.Mathlib.Omega.{arith}
 use mir.Syntax.{w32}
 use mir.Facts.{toZ-ofZ}
 use Rattle.show.proofs.Lines.{position-row}
-use Rattle.place.proofs.Written.{then, wrote-as}
+use Rattle.octets.proofs.Places.{then, wrote-as}
 use borrow.Author.Needs.{needs}
 use Rattle.show.proofs.put_position_line.Statement.{statement}
 use Rattle.show.proofs.put_position_line.Tie as tie

@@ -1,7 +1,7 @@
 -- `show::put_shown` meets its contract. Assumes nothing.
 use mathlib.Core.Path.{sym, _∙_}
 use native.Mathlib.Omega.{arith}
-use Rattle.place.proofs.Written.{wrote-as}
+use Rattle.octets.proofs.Places.{wrote-as}
 use Rattle.show.proofs.Escapes.{shown-plain, shown-escaped}
 use borrow.Author.Needs.{needs}
 use Rattle.show.proofs.put_shown.Statement.{statement}

@@ -1,6 +1,6 @@
 -- `show::put_sign` meets its contract. Assumes nothing.
 use native.Mathlib.Omega.{arith}
-use Rattle.place.proofs.Written.{wrote-none, wrote-as}
+use Rattle.octets.proofs.Places.{wrote-none, wrote-as}
 use Rattle.show.proofs.Fixed.{has-sign, no-sign}
 use borrow.Author.Needs.{needs}
 use Rattle.show.proofs.put_sign.Statement.{statement}

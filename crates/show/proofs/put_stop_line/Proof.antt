@@ -2,7 +2,7 @@
 use mathlib.Core.List.{append-assoc}
 use native.Mathlib.Omega.{arith}
 use Rattle.show.specs.Lines.{stopLineOf}
-use Rattle.place.proofs.Written.{then, wrote-as}
+use Rattle.octets.proofs.Places.{then, wrote-as}
 use borrow.Author.Needs.{needs}
 use Rattle.show.proofs.put_stop_line.Statement.{statement}
 use Rattle.show.proofs.put_stop_line.Tie as tie

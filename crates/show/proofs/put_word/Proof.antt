@@ -1,7 +1,7 @@
 -- `show::put_word` meets its contract: there is room. Assumes nothing.
 use borrow.Author.Needs.{needs}
 use native.Mathlib.Omega.{arith}
-use Rattle.place.proofs.Written.{put-wrote}
+use Rattle.octets.proofs.Places.{put-wrote}
 use Rattle.show.proofs.put_word.Statement.{statement}
 use Rattle.show.proofs.put_word.Tie as tie
 

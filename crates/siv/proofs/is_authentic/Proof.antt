@@ -2,7 +2,7 @@
 use mathlib.Core.Path.{ap, _∙_}
 use Prim.Native.Nat.{ℕ}
 use mathlib.Core.List.{List}
-use Rattle.aead.specs.Bytes.{sameBytes}
+use Rattle.octets.specs.Strings.{sameBytes}
 use borrow.Author.Needs.{needs}
 use Rattle.siv.proofs.is_authentic.Statement.{statement}
 use Rattle.siv.proofs.is_authentic.Tie as tie

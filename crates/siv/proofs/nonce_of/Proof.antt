@@ -1,7 +1,7 @@
 -- `siv::nonce_of` meets its contract. Assumes nothing.
 use mathlib.Core.Path.{_∙_}
 use lib.ListN.{replicate}
-use Rattle.aead.proofs.Copy.{copied-fills}
+use Rattle.octets.proofs.Copies.{copied-fills}
 use borrow.Author.Needs.{needs}
 use Rattle.siv.proofs.nonce_of.Statement.{statement}
 use Rattle.siv.proofs.nonce_of.Tie as tie

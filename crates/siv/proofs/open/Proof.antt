@@ -7,15 +7,15 @@ use native.Mathlib.Omega.{arith}
 use lib.ListN.{length}
 use lib.Seq.{length-take-le}
 use Rattle.field.specs.Element.{value}
-use Rattle.aead.specs.Bytes.{sameBytes}
+use Rattle.octets.specs.Strings.{sameBytes}
 use Rattle.aead.specs.Cipher.{encrypted}
-use Rattle.aead.specs.Mode.{bodyOf}
-use Rattle.aead.proofs.Done.{Openable, openable}
+use Rattle.modes.specs.Mode.{bodyOf}
+use Rattle.sealing.proofs.Done.{Openable, openable}
 use Rattle.rfc8452.specs.Counter.{maskUnder}
 use Rattle.rfc8452.specs.Tag.{tagUnder}
-use Rattle.siv.specs.Siv.{opened, authentic}
-use Rattle.rfc8452.proofs.Deriving.{derived-hash, derived-cipher}
-use Rattle.siv.proofs.Sealing.{held-opened, held-authentic}
+use Rattle.rfc8452.specs.Siv.{opened, authentic}
+use Rattle.siv_parts.proofs.Deriving.{derived-hash, derived-cipher}
+use Rattle.rfc8452.proofs.Sealing.{held-opened, held-authentic}
 use Rattle.siv.proofs.Returns.{judgedAnswer, opens-early, opens-differs, opens-done}
 use borrow.Author.Needs.{needs}
 use Rattle.siv.proofs.open.Statement.{statement}

@@ -3,7 +3,7 @@ use mathlib.Core.Path.{sym, ap, _∙_}
 use native.Mathlib.Omega.{arith}
 use lib.ListN.{length, take}
 use lib.Seq.{length-take-le}
-use Rattle.aead.specs.Stream.{masked}
+use Rattle.modes.specs.Stream.{masked}
 use Rattle.aead.specs.Cipher.{encrypted}
 use Rattle.rfc8452.specs.Counter.{nextCounter, maskUnder}
 use Rattle.siv.proofs.Writing.{changed-front}

@@ -5,8 +5,8 @@ use mathlib.Core.List.{List, _++_}
 use native.Mathlib.Omega.{arith}
 use lib.ListN.{length, drop}
 use Rattle.aead.specs.Cipher.{encrypted}
-use Rattle.aead.specs.Mode.{sealedBy}
-use Rattle.aead.proofs.Stream.{masked-length}
+use Rattle.modes.specs.Mode.{sealedBy}
+use Rattle.modes.proofs.Stream.{masked-length}
 use Rattle.rfc8452.specs.Counter.{counterBlock, nextCounter, maskUnder}
 use Rattle.siv.proofs.Writing.{put-behind}
 use borrow.Author.Needs.{needs}

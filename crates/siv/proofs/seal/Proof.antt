@@ -5,13 +5,14 @@ use mathlib.Core.List.{List}
 use lib.ListN.{length}
 use Rattle.field.specs.Element.{value}
 use Rattle.aead.specs.Cipher.{encrypted}
-use Rattle.aead.specs.Mode.{sealedBy}
-use Rattle.aead.proofs.Done.{Sealable, sealable}
+use Rattle.modes.specs.Mode.{sealedBy}
+use Rattle.sealing.proofs.Done.{Sealable, sealable}
 use Rattle.rfc8452.specs.Counter.{maskUnder}
 use Rattle.rfc8452.specs.Tag.{tagUnder}
-use Rattle.siv.specs.Siv.{sealed, sealAnswer}
-use Rattle.rfc8452.proofs.Deriving.{derived-hash, derived-cipher}
-use Rattle.siv.proofs.Sealing.{held-sealed}
+use Rattle.rfc8452.specs.Siv.{sealed}
+use Rattle.sealing.specs.Siv.{sealAnswer}
+use Rattle.siv_parts.proofs.Deriving.{derived-hash, derived-cipher}
+use Rattle.rfc8452.proofs.Sealing.{held-sealed}
 use Rattle.siv.proofs.Returns.{seals-refused, seals-done}
 use borrow.Author.Needs.{needs}
 use Rattle.siv.proofs.seal.Statement.{statement}

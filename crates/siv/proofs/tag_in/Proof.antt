@@ -4,9 +4,9 @@ use mathlib.Core.Path.{ap, _∙_}
 use mathlib.Core.List.{List}
 use native.Mathlib.Omega.{arith}
 use lib.ListN.{length, drop, replicate, length-drop}
-use Rattle.gf2.proofs.Parts.{part-rest}
-use Rattle.aead.specs.Bytes.{copied}
-use Rattle.aead.proofs.Copy.{copied-fills}
+use Rattle.octets.proofs.Parts.{part-rest}
+use Rattle.octets.specs.Strings.{copied}
+use Rattle.octets.proofs.Copies.{copied-fills}
 use borrow.Author.Needs.{needs}
 use Rattle.siv.proofs.tag_in.Statement.{statement}
 use Rattle.siv.proofs.tag_in.Tie as tie

@@ -3,8 +3,8 @@ use mathlib.Core.Path.{_≡_}
 use mathlib.Core.Bool.{false}
 use mathlib.Core.Logic.{⊎-elim}
 use borrow.Author.Tests.{lt-ltb, le-ltb}
-use Rattle.aead.specs.Calls.{isNoKey}
-use Rattle.aead.proofs.Refusals.{no-key, short-key, long-key, no-nonce, nonce-length}
+use Rattle.sealing.specs.Calls.{isNoKey}
+use Rattle.sealing.proofs.Refusals.{no-key, short-key, long-key, no-nonce, nonce-length}
 use Rattle.aead.proofs.lengths.common_refusal.Statement.{statement}
 use Rattle.aead.proofs.lengths.common_refusal.Tie as tie
 

@@ -5,8 +5,8 @@ use mathlib.Core.Path.{_≡_, sym, _∙_}
 use borrow.Author.Needs.{needs}
 use borrow.Author.Tests.{lt-ltb, le-ltb}
 use Rattle.answer.specs.First.{first}
-use Rattle.aead.specs.Calls.{openAnswer}
-use Rattle.aead.proofs.Refusals.{openRest, open-refused, open-passed}
+use Rattle.sealing.specs.Calls.{openAnswer}
+use Rattle.sealing.proofs.Refusals.{openRest, open-refused, open-passed}
 use Rattle.aead.proofs.lengths.open_refusal.Statement.{statement}
 use Rattle.aead.proofs.lengths.open_refusal.Tie as tie
 

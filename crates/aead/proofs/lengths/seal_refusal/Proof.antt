@@ -4,8 +4,8 @@ use mathlib.Core.Path.{_≡_, sym, _∙_}
 use borrow.Author.Needs.{needs}
 use borrow.Author.Tests.{lt-ltb, le-ltb}
 use Rattle.answer.specs.First.{first}
-use Rattle.aead.specs.Calls.{sealAnswer}
-use Rattle.aead.proofs.Refusals.{sealRest, seal-refused, seal-passed}
+use Rattle.sealing.specs.Calls.{sealAnswer}
+use Rattle.sealing.proofs.Refusals.{sealRest, seal-refused, seal-passed}
 use Rattle.aead.proofs.lengths.seal_refusal.Statement.{statement}
 use Rattle.aead.proofs.lengths.seal_refusal.Tie as tie
 

@@ -1,6 +1,6 @@
 use mathlib.Core.Path.{refl}
 use borrow.Author.Needs.{needs}
-use Rattle.gf2.specs.Carryless.{_⊕_}
+use Rattle.octets.specs.Xor.{_⊕_}
 use Rattle.fips197.specs.KeyExpansion.{sum}
 use Rattle.aes.proofs.expansion.sum.Statement.{statement}
 use Rattle.aes.proofs.expansion.sum.Tie as tie

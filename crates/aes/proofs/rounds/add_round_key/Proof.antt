@@ -1,7 +1,7 @@
 -- `aes::rounds::add_round_key` meets its contract. Assumes nothing.
 use mathlib.Core.Path.{refl}
 use borrow.Author.Needs.{needs}
-use Rattle.gf2.specs.Carryless.{_⊕_}
+use Rattle.octets.specs.Xor.{_⊕_}
 use Rattle.aes.proofs.Words.{key-law}
 use Rattle.aes.proofs.rounds.add_round_key.Statement.{statement}
 use Rattle.aes.proofs.rounds.add_round_key.Tie as tie

@@ -2,8 +2,8 @@
 use mathlib.Core.Path.{_∙_}
 use Prim.Native.Nat.{ℕ, _/_, _%_, _^_}
 use borrow.Author.Needs.{needs}
-use Rattle.gf2.specs.Bytes.{bytesOf}
-use Rattle.gf2.specs.Carryless.{_⊕_}
+use Rattle.octets.specs.Numbers.{bytesOf}
+use Rattle.octets.specs.Xor.{_⊕_}
 use Rattle.fips197.proofs.Sbox.{sbox-lt}
 use Rattle.fips197.specs.Cipher.{mixColumn}
 use Rattle.fips197.specs.Sbox.{sbox}

@@ -1,6 +1,6 @@
 -- `aes::rounds::columns` meets its contract. Assumes nothing.
 use borrow.Author.Needs.{needs}
-use Rattle.gf2.specs.Bytes.{bytesOf}
+use Rattle.octets.specs.Numbers.{bytesOf}
 use Rattle.fips197.specs.Cipher.{subBytes, shiftRows, mixColumns}
 use Rattle.aes.proofs.Words.{beside}
 use Rattle.aes.proofs.rounds.columns.Statement.{statement}

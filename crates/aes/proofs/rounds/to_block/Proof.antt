@@ -1,6 +1,6 @@
 -- `aes::rounds::to_block` meets its contract. Assumes nothing.
 use borrow.Author.Needs.{needs}
-use Rattle.gf2.specs.Bytes.{bytesOf}
+use Rattle.octets.specs.Numbers.{bytesOf}
 use Rattle.aes.proofs.Words.{sixteen}
 use Rattle.aes.proofs.rounds.to_block.Statement.{statement}
 use Rattle.aes.proofs.rounds.to_block.Tie as tie

@@ -1,7 +1,7 @@
 -- `hash::Hash::absorb` meets its contract. Assumes nothing.
 use mathlib.Core.Path.{ap, _∙_}
 use mathlib.Core.List.{[]}
-use Rattle.polyval.specs.Blocks.{blocks}
+use Rattle.rfc8452.specs.Blocks.{blocks}
 use Rattle.polyval.specs.Formulas.{inGroups}
 use Rattle.polyval.specs.Routes.{absorbOn}
 use Rattle.hash.specs.Record.{holding}

@@ -5,10 +5,10 @@ use native.Mathlib.Omega.{arith}
 use lib.ListN.{length, take, drop}
 use lib.Seq.{length-take-le}
 use Rattle.field.proofs.Element.{Sized}
-use Rattle.polyval.specs.Blocks.{blocks}
+use Rattle.rfc8452.specs.Blocks.{blocks}
 use Rattle.polyval.specs.Formulas.{alone}
 use Rattle.polyval.specs.Routes.{absorbOn}
-use Rattle.polyval.proofs.Cut.{part-rest}
+use Rattle.rfc8452.proofs.Cut.{part-rest}
 use Rattle.polyval.proofs.Alone.{alone-++}
 use Rattle.hash.specs.Record.{pendingOf, heldBy, holding}
 use Rattle.hash.specs.Calls.{pieced}

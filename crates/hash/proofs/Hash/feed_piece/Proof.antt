@@ -10,10 +10,10 @@ use native.Mathlib.Omega.{arith}
 use lib.ListN.{length, length-append}
 use lib.Seq.{length-take-le}
 use Rattle.field.proofs.Element.{Sized}
-use Rattle.polyval.specs.Blocks.{blocks}
+use Rattle.rfc8452.specs.Blocks.{blocks}
 use Rattle.polyval.specs.Formulas.{alone}
 use Rattle.polyval.specs.Routes.{absorbOn}
-use Rattle.polyval.proofs.Cut.{blocks-none}
+use Rattle.rfc8452.proofs.Cut.{blocks-none}
 use Rattle.polyval.proofs.Alone.{alone-none}
 use Rattle.hash.specs.Record.{fedOr, pendingOf, heldBy, holding}
 use Rattle.hash.specs.Calls.{pieced}

@@ -7,9 +7,9 @@ use Rattle.answer.specs.Answers.{done, badRecord}
 use mathlib.Core.Path.{_≡_}
 use native.Mathlib.Omega.{arith}
 use lib.Seq.{length-take-le}
-use Rattle.gf2.specs.Bytes.{bytesOf}
+use Rattle.octets.specs.Numbers.{bytesOf}
 use Rattle.field.specs.Element.{value}
-use Rattle.polyval.specs.Blocks.{blocks}
+use Rattle.rfc8452.specs.Blocks.{blocks}
 use Rattle.polyval.specs.Formulas.{alone}
 use Rattle.polyval.specs.Routes.{absorbOn}
 use Rattle.hash.specs.Record.{finishedOr, pendingOf}

@@ -8,7 +8,7 @@ use mathlib.Core.Path.{_≡_}
 use mathlib.Core.List.{[]}
 use native.Mathlib.Omega.{arith}
 use lib.Seq.{take-all}
-use Rattle.gf2.specs.Bytes.{number}
+use Rattle.octets.specs.Numbers.{number}
 use Rattle.field.specs.Rf.{counted}
 use Rattle.polyval.specs.Key.{keyOf, expandedOf, expansionCost}
 use Rattle.hash.specs.Record.{fedOr, holding}

@@ -1,7 +1,8 @@
 -- `limbs::mul32::karatsuba_mul32` meets its contract. Assumes nothing.
 use mathlib.Core.Path.{ap, ap₂, _∙_}
 use native.Mathlib.Omega.{arith}
-use Rattle.gf2.specs.Carryless.{_⊕_, clmul}
+use Rattle.octets.specs.Xor.{_⊕_}
+use Rattle.gf2.specs.Carryless.{clmul}
 use Rattle.limbs.specs.Limbs32.{quartersOf, reversedQuarters, columnsOf, reversedColumns, productOf32}
 use Rattle.limbs.proofs.Words32.{Sized32, assembled, product-words, quarters-value}
 use borrow.Author.Needs.{needs}

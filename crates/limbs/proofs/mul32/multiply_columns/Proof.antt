@@ -1,5 +1,5 @@
 -- `limbs::mul32::multiply_columns` meets its contract. Assumes nothing.
-use Rattle.gf2.specs.Carryless.{_⊕_}
+use Rattle.octets.specs.Xor.{_⊕_}
 use Rattle.limbs.proofs.Words32.{columns-words}
 use borrow.Author.Needs.{needs}
 use Rattle.limbs.proofs.mul32.multiply_columns.Statement.{statement}

@@ -1,6 +1,6 @@
 -- `limbs::mul32::times_inverse32` meets its contract. Assumes nothing.
 use mathlib.Core.Path.{refl, sym}
-use Rattle.gf2.specs.Carryless.{_⊕_}
+use Rattle.octets.specs.Xor.{_⊕_}
 use Rattle.gf2.proofs.Tail.{tail-low, tail-high}
 use Rattle.limbs.specs.Limbs32.{tail32}
 use Rattle.limbs.proofs.mul32.times_inverse32.Statement.{statement}

@@ -1,7 +1,7 @@
 -- `limbs::mul64::karatsuba_mul` meets its contract. Assumes nothing.
 use mathlib.Core.Path.{ap, _∙_}
 use native.Mathlib.Omega.{arith}
-use Rattle.gf2.specs.Carryless.{_⊕_}
+use Rattle.octets.specs.Xor.{_⊕_}
 use Rattle.limbs.specs.Limbs64.{limbsOf, reversedLimbs}
 use Rattle.limbs.proofs.Words64.{assembled, product-words}
 use borrow.Author.Needs.{needs}

@@ -1,5 +1,5 @@
 -- `limbs::mul64::multiply_limbs` meets its contract. Assumes nothing.
-use Rattle.gf2.specs.Carryless.{_⊕_}
+use Rattle.octets.specs.Xor.{_⊕_}
 use Rattle.limbs.proofs.Words64.{limbs-words}
 use borrow.Author.Needs.{needs}
 use Rattle.limbs.proofs.mul64.multiply_limbs.Statement.{statement}

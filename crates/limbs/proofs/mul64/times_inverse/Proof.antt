@@ -1,6 +1,6 @@
 -- `limbs::mul64::times_inverse` meets its contract. Assumes nothing.
 use mathlib.Core.Path.{refl, sym}
-use Rattle.gf2.specs.Carryless.{_⊕_}
+use Rattle.octets.specs.Xor.{_⊕_}
 use Rattle.gf2.specs.Polyval.{xInv64}
 use Rattle.gf2.proofs.Tail.{tail-low, tail-high}
 use Rattle.limbs.proofs.mul64.times_inverse.Statement.{statement}

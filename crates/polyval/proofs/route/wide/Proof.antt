@@ -1,8 +1,8 @@
 -- `polyval::route::wide` meets its contract. Assumes nothing.
 use mathlib.Core.Path.{ap, _∙_}
 use Rattle.field.specs.Element.{value, element}
-use Rattle.polyval.specs.Machine.{run}
-use Rattle.polyval.specs.Blocks.{blocks}
+use Rattle.rfc8452.specs.Machine.{run}
+use Rattle.rfc8452.specs.Blocks.{blocks}
 use borrow.Author.Needs.{needs}
 use Rattle.polyval.proofs.route.wide.Statement.{statement}
 use Rattle.polyval.proofs.route.wide.Tie as tie

@@ -3,7 +3,7 @@ use Prim.Native.Nat.{_-_, _≤_}
 use mathlib.Core.Path.{_≡_, ap, _∙_}
 use native.Mathlib.Omega.{arith}
 use lib.ListN.{length, length-set, length-drop}
-use Rattle.gf2.proofs.Parts.{part-rest}
+use Rattle.octets.proofs.Parts.{part-rest}
 use borrow.Author.Needs.{needs}
 use Rattle.vectors_siv.proofs.words.decode.Statement.{statement}
 use Rattle.vectors_siv.proofs.words.decode.Tie as tie

@@ -3,7 +3,7 @@ use mathlib.Core.Path.{sym, ap, _∙_}
 use borrow.Author.Tests.{eq-eqb, ne-eqb}
 use lib.ListN.{length, replicate}
 use Rattle.aead.specs.Cipher.{shortCipher, longCipher, cipherUnder}
-use Rattle.aead.proofs.Copy.{copied-fills}
+use Rattle.octets.proofs.Copies.{copied-fills}
 use borrow.Author.Needs.{needs}
 use Rattle.aead.proofs.cipher.Cipher.under.Statement.{statement}
 use Rattle.aead.proofs.cipher.Cipher.under.Tie as tie

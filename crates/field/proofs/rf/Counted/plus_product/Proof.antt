@@ -2,7 +2,8 @@
 use mathlib.Core.Path.{ap, _∙_}
 use Prim.Native.Nat.{_+_, _*_, _^_}
 use lib.Pow.{split}
-use Rattle.gf2.specs.Carryless.{_⊕_, clmul}
+use Rattle.octets.specs.Xor.{_⊕_}
+use Rattle.gf2.specs.Carryless.{clmul}
 use Rattle.field.specs.Element.{value, element}
 use borrow.Author.Needs.{needs}
 use Rattle.field.proofs.rf.Counted.plus_product.Statement.{statement}

@@ -5,8 +5,8 @@ use mathlib.Core.Path.{_≡_, ap, _∙_}
 use Prim.Native.Nat.{ℕ, _+_, _≤_}
 use native.Mathlib.Omega.{arith}
 use borrow.Author.Needs.{needs}
-use Rattle.gf2.specs.Bytes.{number}
-use Rattle.gf2.proofs.Bytes.{cells, cells-part}
+use Rattle.octets.specs.Numbers.{number}
+use Rattle.octets.proofs.Numbers.{cells, cells-part}
 use Rattle.frame.specs.Signed.{signed}
 use Rattle.frame.specs.Position.{positionOf, wordAt}
 use Rattle.frame.proofs.position.Position.from_bytes.Statement.{statement}

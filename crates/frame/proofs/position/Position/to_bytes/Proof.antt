@@ -5,8 +5,8 @@ use mathlib.Core.Path.{ap, _∙_}
 use mathlib.Core.List.{List, _++_}
 use Prim.Native.Nat.{ℕ}
 use borrow.Author.Needs.{needs}
-use Rattle.gf2.specs.Bytes.{bytesOf}
-use Rattle.gf2.proofs.Bytes.{cells}
+use Rattle.octets.specs.Numbers.{bytesOf}
+use Rattle.octets.proofs.Numbers.{cells}
 use Rattle.frame.specs.Signed.{bitsOf}
 use Rattle.frame.specs.Position.{positionBytes}
 use Rattle.frame.proofs.position.Position.to_bytes.Statement.{statement}

@@ -5,14 +5,14 @@ use mathlib.Core.List.{map}
 use native.Mathlib.Omega.{arith}
 use borrow.Author.Needs.{needs}
 use lib.ListN.{length, drop, take}
-use Rattle.gf2.specs.Bytes.{number}
+use Rattle.octets.specs.Numbers.{number}
 use Rattle.field.specs.Element.{value, element}
 use Rattle.field.proofs.Element.{value-of, element-value}
-use Rattle.polyval.specs.Machine.{step, run}
-use Rattle.polyval.specs.Blocks.{blocks}
-use Rattle.polyval.proofs.Run.{step-lt}
-use Rattle.ghash.specs.Calls.{reversed}
-use Rattle.ghash.proofs.Reversed.{reversed-lt}
+use Rattle.rfc8452.specs.Machine.{step, run}
+use Rattle.rfc8452.specs.Blocks.{blocks}
+use Rattle.rfc8452.proofs.Run.{step-lt}
+use Rattle.rfc8452.specs.AppendixA.{reversed}
+use Rattle.rfc8452.proofs.Reversed.{reversed-lt}
 use Rattle.ghash.proofs.Fed.{fed-turn, fed-none}
 use Rattle.ghash.proofs.parts.Ghash.feed_padded.Statement.{statement}
 use Rattle.ghash.proofs.parts.Ghash.feed_padded.Tie as tie

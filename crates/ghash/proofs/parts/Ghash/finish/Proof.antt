@@ -1,10 +1,10 @@
 -- `ghash::parts::Ghash::finish` meets its contract. Assumes nothing.
 use mathlib.Core.Path.{ap, _∙_}
-use Rattle.gf2.specs.Bytes.{bytesOf}
+use Rattle.octets.specs.Numbers.{bytesOf}
 use Rattle.field.specs.Element.{value}
 use Rattle.field.proofs.Element.{value-of}
-use Rattle.ghash.specs.Calls.{reversed}
-use Rattle.ghash.proofs.Reversed.{reversed-lt, bytesOf-reversed}
+use Rattle.rfc8452.specs.AppendixA.{reversed}
+use Rattle.rfc8452.proofs.Reversed.{reversed-lt, bytesOf-reversed}
 use borrow.Author.Needs.{needs}
 use Rattle.ghash.proofs.parts.Ghash.finish.Statement.{statement}
 use Rattle.ghash.proofs.parts.Ghash.finish.Tie as tie

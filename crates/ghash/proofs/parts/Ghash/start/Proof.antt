@@ -10,12 +10,12 @@ use lib.Seq.{take-all}
 use borrow.Author.Tests.{eq-eqb, ne-eqb}
 use Rattle.answer.specs.Answers.{done, keyLength}
 use Rattle.gf2.specs.Polyval.{mulx}
-use Rattle.gf2.specs.Bytes.{number}
+use Rattle.octets.specs.Numbers.{number}
 use Rattle.field.specs.Element.{value, element}
 use Rattle.field.proofs.Element.{value-of}
 use Rattle.ghash.specs.declared.parts.Started.{Started}
-use Rattle.ghash.specs.Calls.{reversed, keyFor}
-use Rattle.ghash.proofs.Reversed.{reversed-lt}
+use Rattle.rfc8452.specs.AppendixA.{reversed, keyFor}
+use Rattle.rfc8452.proofs.Reversed.{reversed-lt}
 use borrow.Author.Needs.{needs}
 use Rattle.ghash.proofs.parts.Ghash.start.Statement.{statement}
 use Rattle.ghash.proofs.parts.Ghash.start.Tie as tie

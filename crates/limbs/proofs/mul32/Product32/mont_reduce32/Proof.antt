@@ -1,6 +1,6 @@
 -- `limbs::mul32::Product32::mont_reduce32` meets its contract. Assumes nothing.
 use native.Mathlib.Omega.{arith}
-use Rattle.gf2.specs.Carryless.{_⊕_}
+use Rattle.octets.specs.Xor.{_⊕_}
 use Rattle.limbs.proofs.Folds32.{folded}
 use borrow.Author.Needs.{needs}
 use Rattle.limbs.proofs.mul32.Product32.mont_reduce32.Statement.{statement}

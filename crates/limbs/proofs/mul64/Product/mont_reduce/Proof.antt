@@ -1,6 +1,6 @@
 -- `limbs::mul64::Product::mont_reduce` meets its contract. Assumes nothing.
 use native.Mathlib.Omega.{arith}
-use Rattle.gf2.specs.Carryless.{_⊕_}
+use Rattle.octets.specs.Xor.{_⊕_}
 use Rattle.limbs.proofs.Folds64.{folded}
 use borrow.Author.Needs.{needs}
 use Rattle.limbs.proofs.mul64.Product.mont_reduce.Statement.{statement}

@@ -1,3 +1,0 @@
--- Laws of the crate little_endian.
-pub mod FourBytes
-pub mod Unique

@@ -1,0 +1,2 @@
+-- What the theorems of uniqueness say, in every crate.
+pub mod Promise

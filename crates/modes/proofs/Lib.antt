@@ -1,0 +1,3 @@
+-- Laws of the key stream and of a sealed part.
+pub mod Stream
+pub mod Modes

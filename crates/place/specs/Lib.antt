@@ -1,2 +1,0 @@
--- What the contract of the crate place cites.
-pub mod Put

@@ -1,0 +1,37 @@
+-- Both sides of each length that sealing and opening ask of, and the order of their answers (document 01, "Answers" and "Cases"): lengths
+-- alone decide, so each is computed. The limits stand here by number, since they are the limits' own cases. Assumes nothing.
+use mathlib.Core.Path.{_≡_, refl}
+use mathlib.Core.Bool.{true, false}
+use Rattle.sealing.specs.Calls.{sealAnswer, openAnswer}
+
+-- keys of 16 and 32 bytes, and no other
+keys : (sealAnswer 0 12 0 0 16 ≡ 1) × (sealAnswer 15 12 0 0 16 ≡ 1) × (sealAnswer 16 12 0 0 16 ≡ 0) × (sealAnswer 17 12 0 0 16 ≡ 1)
+    × (sealAnswer 24 12 0 0 16 ≡ 1) × (sealAnswer 31 12 0 0 16 ≡ 1) × (sealAnswer 32 12 0 0 16 ≡ 0) × (sealAnswer 33 12 0 0 16 ≡ 1)
+keys = (refl, refl, refl, refl, refl, refl, refl, refl)
+
+nonces : (sealAnswer 16 11 0 0 16 ≡ 2) × (sealAnswer 16 12 0 0 16 ≡ 0) × (sealAnswer 16 13 0 0 16 ≡ 2)
+nonces = (refl, refl, refl)
+
+associated-data : (sealAnswer 16 12 256 0 16 ≡ 0) × (sealAnswer 16 12 257 0 16 ≡ 4) × (openAnswer 16 12 256 16 0 true ≡ 0) × (openAnswer 16 12 257 16 0 true ≡ 4)
+associated-data = (refl, refl, refl, refl)
+
+-- "Plaintext 4,096 seals; 4,097 is 5."
+plaintexts : (sealAnswer 16 12 0 4096 4112 ≡ 0) × (sealAnswer 16 12 0 4097 4113 ≡ 5)
+plaintexts = (refl, refl)
+
+-- "Sealed part 15 is 6; 16 is tried": then the tag decides
+sealed-parts : (openAnswer 16 12 0 15 16 true ≡ 6) × (openAnswer 16 12 0 16 0 true ≡ 0) × (openAnswer 16 12 0 16 0 false ≡ 8)
+    × (openAnswer 16 12 0 4112 4096 true ≡ 0) × (openAnswer 16 12 0 4112 4096 false ≡ 8) × (openAnswer 16 12 0 4113 4097 true ≡ 5)
+sealed-parts = (refl, refl, refl, refl, refl, refl)
+
+-- "Seal needs n+16 bytes of output for n of plaintext; open of m needs m-16."
+rooms : (sealAnswer 16 12 0 100 115 ≡ 7) × (sealAnswer 16 12 0 100 116 ≡ 0) × (openAnswer 16 12 0 116 99 true ≡ 7) × (openAnswer 16 12 0 116 100 true ≡ 0)
+rooms = (refl, refl, refl, refl)
+
+-- where several apply, the first in document 01's order: seal 1, 2, 4, 5, 7; open 1, 2, 4, 6, 5, 7, 8
+seal-order : (sealAnswer 0 0 257 4097 0 ≡ 1) × (sealAnswer 16 0 257 4097 0 ≡ 2) × (sealAnswer 16 12 257 4097 0 ≡ 4) × (sealAnswer 16 12 0 4097 0 ≡ 5) × (sealAnswer 16 12 0 0 0 ≡ 7)
+seal-order = (refl, refl, refl, refl, refl)
+
+open-order : (openAnswer 0 0 257 0 0 false ≡ 1) × (openAnswer 16 0 257 0 0 false ≡ 2) × (openAnswer 16 12 257 0 0 false ≡ 4) × (openAnswer 16 12 0 0 0 false ≡ 6)
+    × (openAnswer 16 12 0 4113 0 false ≡ 5) × (openAnswer 16 12 0 17 0 false ≡ 7) × (openAnswer 16 12 0 17 1 false ≡ 8)
+open-order = (refl, refl, refl, refl, refl, refl, refl)

@@ -1,0 +1,8 @@
+-- The answers of any mode, and the theorems on sealing and opening.
+pub mod Refusals
+pub mod Done
+pub mod Written
+pub mod Trips
+pub mod Theorems
+mod Cases
+mod LongestTexts

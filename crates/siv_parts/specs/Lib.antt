@@ -1,0 +1,2 @@
+-- How the keys of a message are held.
+pub mod Derives
