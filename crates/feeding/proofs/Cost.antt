@@ -13,6 +13,7 @@ use Rattle.field.specs.Rf.{after, rfGroup}
 use Rattle.field.proofs.Count.{after-after}
 use Rattle.feeding.specs.declared.Power.{Power}
 use Rattle.feeding.specs.Key.{expansionCost}
+use Rattle.feeding.specs.Cost.{startCost, blocksCost, lonesCost}
 use Rattle.feeding.specs.Formulas.{paired, joining, groupOf, groupsOf, rfRun, inGroups, alone}
 
 -- n blocks, taken in groups of these sizes
@@ -71,16 +72,14 @@ run-cost ns ps held xs none fits =
     run-spent ns ps held xs (subst (λ m. m < 2 ^ 64) (sym none) (pow-pos 64)) ∙ ap (after (cost ns (length xs))) none
     ∙ ap (λ m. m % 2 ^ 64) (zero-add (cost ns (length xs))) ∙ mod-eq-of-lt fits
 
--- "For n blocks in one whole-block or padded call: 17·floor(n/4) + 5·(n mod 4)"
-pub groups-number : (n : ℕ) → cost inGroups n ≡ 17 * (n / 4) + 5 * (n % 4)
+-- these are document 01's numbers
+pub groups-number : (n : ℕ) → cost inGroups n ≡ blocksCost n
 unfolding cost
 groups-number n = omega arith
 
--- "Piece feed and finish spend exactly 5 for each block completed"
-pub alone-number : (n : ℕ) → cost alone n ≡ 5 * n
+pub alone-number : (n : ℕ) → cost alone n ≡ lonesCost n
 unfolding cost
 alone-number n = omega arith
 
--- "The R/F route spends 19 on key expansion, 5 on a lone block, 17 on a group of four"
-pub expansion-number : expansionCost ≡ 19
+pub expansion-number : expansionCost ≡ startCost
 expansion-number = refl

@@ -5,6 +5,7 @@ pub mod Routes
 pub mod Record
 pub mod Calls
 pub mod Feeds
+pub mod Cost
 pub mod Times
 pub mod Join
 pub mod Parts
