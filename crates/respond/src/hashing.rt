@@ -2,14 +2,14 @@
 use crate::print::Said;
 use crate::requests;
 use crate::words;
+use feeding::Fed;
+use feeding::Finished;
+use feeding::Hash;
+use feeding::Joined;
+use feeding::Route;
 use field::FieldElement;
-use hash::Fed;
-use hash::Finished;
-use hash::Hash;
-use join::Joined;
 use polyval::block;
-use polyval::key::ExpandedKey;
-use polyval::route::Route;
+use polyval::key;
 
 // The record that bytes spell, as far as they go: the key, the element, what is pending. It counts none of that.
 fn stored(s: &[u8]) -> Hash {
@@ -32,7 +32,7 @@ fn record_at(arena: &[u8], slots: &[u64], i: usize) -> Hash {
             count: words::number(slots, i + 3) as usize,
         };
     }
-    Hash::zero()
+    hash::zero()
 }
 
 // The route that a slot holds by its number.
@@ -46,7 +46,7 @@ fn route_of(n: u64) -> Route {
 
 // What is said of a key with the count spent on it: the record that holds it lies in the space.
 fn expand(h: FieldElement, space: &mut [u8]) -> Said {
-    let e = ExpandedKey::expand(h);
+    let e = key::expand(h);
     let key = e.key;
     let b = record::encode(Hash {
         key,
@@ -61,7 +61,7 @@ fn expand(h: FieldElement, space: &mut [u8]) -> Said {
 // 1 where a stored key passes the check.
 fn check(h: Hash) -> Said {
     let key = h.key;
-    if key.check() {
+    if key::check(key) {
         return Said::numbers(1, 0, 0);
     }
     Said::numbers(0, 0, 0)
@@ -70,9 +70,9 @@ fn check(h: Hash) -> Said {
 // One of the three feeds.
 fn feed(code: usize, h: Hash, route: Route, s: &[u8]) -> Fed {
     match code {
-        requests::BLOCKS => h.feed_blocks(route, s),
-        requests::PADDED => h.feed_padded(route, s),
-        _ => h.feed_piece(route, s),
+        requests::BLOCKS => hash::feed_blocks(h, route, s),
+        requests::PADDED => hash::feed_padded(h, route, s),
+        _ => hash::feed_piece(h, route, s),
     }
 }
 
@@ -107,7 +107,7 @@ fn routed(code: usize, arena: &[u8], slots: &[u64], space: &mut [u8]) -> Said {
     let route = route_of(words::number(slots, 0));
     let h = record_at(arena, slots, 1);
     if code == requests::FINISH {
-        return finished(h.finish(route), space);
+        return finished(hash::finish(h, route), space);
     }
     fed(feed(code, h, route, words::bytes(arena, slots, 5)), space)
 }
@@ -126,7 +126,7 @@ fn on_key(code: usize, s: &[u8], space: &mut [u8]) -> Said {
     match code {
         requests::EXPAND => expand(block::block_of(s), space),
         requests::CHECK => check(stored(s)),
-        _ => fed(Hash::start(s), space),
+        _ => fed(hash::start(s), space),
     }
 }
 
@@ -136,7 +136,7 @@ pub(crate) fn answer(code: usize, arena: &[u8], slots: &[u64], space: &mut [u8])
         requests::EXPAND | requests::CHECK | requests::START => {
             on_key(code, words::bytes(arena, slots, 0), space)
         }
-        requests::RESET => fed(record_at(arena, slots, 0).reset(), space),
+        requests::RESET => fed(hash::reset(record_at(arena, slots, 0)), space),
         requests::JOIN => joined(join_two(arena, slots), space),
         _ => routed(code, arena, slots, space),
     }

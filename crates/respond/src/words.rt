@@ -13,7 +13,7 @@ ghost use lib.ListN.{length};
 pub(crate) const SLOTS: usize = 27;
 
 // The bytes of a stored key: each power of H and its D value.
-pub(crate) const KEY: usize = 32 * polyval::key::POWERS;
+pub(crate) const KEY: usize = 32 * feeding::POWERS;
 
 // The largest output buffer that a request can ask for.
 const ROOM: u64 = 70000;

@@ -1,10 +1,11 @@
 // The library's calls as the list asks for them. `stored` begins with a word, an element or a stored key, with the accumulator
 // behind it; `data` is the other factor, the bytes fed, or a place. Assumes nothing.
+use feeding::Fed;
+use feeding::Route;
 use field::FieldElement;
 use field::rf::Counted;
-use hash::Fed;
 use polyval::block;
-use polyval::route::Route;
+use polyval::key;
 use record::RECORD_SIZE;
 
 // What each line of a file asks for.
@@ -55,7 +56,7 @@ fn rf(a: FieldElement, b: FieldElement) -> FieldElement {
 // The element at a place of the key that is expanded from h, and the products spent on the key.
 fn expanded(h: FieldElement, place: FieldElement) -> Counted {
     let b = h.to_bytes();
-    let started = hash::Hash::start(&b);
+    let started = hash::start(&b);
     let whole = record::encode(started.hash);
     Counted {
         element: block::block_at(&whole, place.lo as usize),
@@ -67,7 +68,7 @@ fn expanded(h: FieldElement, place: FieldElement) -> Counted {
 fn checked(stored: [u8; RECORD_SIZE]) -> FieldElement {
     let h = record::decode(stored);
     let key = h.key;
-    if key.check() {
+    if key::check(key) {
         return lone_word(1);
     }
     FieldElement::ZERO
@@ -94,13 +95,13 @@ fn after(fed: Fed) -> Counted {
 // A feed of whole blocks.
 fn whole(route: Route, stored: [u8; RECORD_SIZE], data: &[u8]) -> Counted {
     let h = record::decode(stored);
-    after(h.feed_blocks(route, data))
+    after(hash::feed_blocks(h, route, data))
 }
 
 // A padded feed.
 fn padded(route: Route, stored: [u8; RECORD_SIZE], data: &[u8]) -> Counted {
     let h = record::decode(stored);
-    after(h.feed_padded(route, data))
+    after(hash::feed_padded(h, route, data))
 }
 
 // What counts no products.
