@@ -52,7 +52,7 @@ fn refused_line(offset: u64, kind: u8, why: u8, out: &mut [u8]) -> usize
 {
     let label = b"refused: ";
     match why {
-        answer::KEY_LENGTH => show::line(
+        answer::KEY_LENGTH => report::line(
             offset,
             kind,
             why,
@@ -60,8 +60,8 @@ fn refused_line(offset: u64, kind: u8, why: u8, out: &mut [u8]) -> usize
             b"the key is not 16 or 32 bytes long",
             out,
         ),
-        answer::TAG_DIFFERS => show::line(offset, kind, why, label, b"the tag differs", out),
-        answer::OUT_OF_RANGE => show::line(
+        answer::TAG_DIFFERS => report::line(offset, kind, why, label, b"the tag differs", out),
+        answer::OUT_OF_RANGE => report::line(
             offset,
             kind,
             why,
@@ -69,7 +69,7 @@ fn refused_line(offset: u64, kind: u8, why: u8, out: &mut [u8]) -> usize
             b"the position is out of range",
             out,
         ),
-        _ => show::line(offset, kind, why, b"refused", b"", out),
+        _ => report::line(offset, kind, why, b"refused", b"", out),
     }
 }
 
@@ -86,7 +86,7 @@ fn frame_line(key: &[u8], held: &[u8], kind: u8, taken: usize, offset: u64, out:
             alt,
             time,
             taken: _,
-        } => show::position_line(
+        } => report::position_line(
             offset,
             kind,
             Position {
@@ -97,7 +97,7 @@ fn frame_line(key: &[u8], held: &[u8], kind: u8, taken: usize, offset: u64, out:
             },
             out,
         ),
-        Message::Text { len, taken: _ } => show::line(
+        Message::Text { len, taken: _ } => report::line(
             offset,
             kind,
             DONE,
@@ -105,7 +105,7 @@ fn frame_line(key: &[u8], held: &[u8], kind: u8, taken: usize, offset: u64, out:
             &plain[..len],
             out,
         ),
-        Message::CheckIn { taken: _ } => show::line(offset, kind, DONE, b"check-in", b"", out),
+        Message::CheckIn { taken: _ } => report::line(offset, kind, DONE, b"check-in", b"", out),
         Message::Refused(why) => refused_line(offset, kind, why, out),
     }
 }
@@ -124,29 +124,29 @@ fn stop_line(reason: u8, offset: u64, frames: u64, out: &mut [u8]) -> usize
     ensures { λ r. ⌜ Counts r (now (out .exit)) ⌝ }
 {
     match reason {
-        answer::DONE => show::stop_line(reason, offset, frames, b"the end of the log", out),
-        answer::NOT_A_FRAME => show::stop_line(
+        answer::DONE => report::stop_line(reason, offset, frames, b"the end of the log", out),
+        answer::NOT_A_FRAME => report::stop_line(
             reason,
             offset,
             frames,
             b"no frame stands here",
             out,
         ),
-        answer::UNKNOWN_KIND => show::stop_line(
+        answer::UNKNOWN_KIND => report::stop_line(
             reason,
             offset,
             frames,
             b"a frame of an unknown kind",
             out,
         ),
-        answer::LENGTH_FOR_KIND => show::stop_line(
+        answer::LENGTH_FOR_KIND => report::stop_line(
             reason,
             offset,
             frames,
             b"a length that its kind does not allow",
             out,
         ),
-        _ => show::stop_line(reason, offset, frames, b"a frame that is cut short", out),
+        _ => report::stop_line(reason, offset, frames, b"a frame that is cut short", out),
     }
 }
 

@@ -4,7 +4,7 @@ use native.Mathlib.Omega.{arith}
 use lib.Seq.{length-take-le}
 use Rattle.framelog.proofs.Texts.{text-fits}
 use Rattle.io.proofs.Counting.{counts}
-use Rattle.show.proofs.Room.{line-within}
+use Rattle.reporting.proofs.Room.{line-within}
 use borrow.Author.Needs.{needs}
 use Rattle.framelog.proofs.frame_line.Statement.{statement}
 use Rattle.framelog.proofs.frame_line.Tie as tie

@@ -1,6 +1,6 @@
 -- `framelog::refused_line` meets its contract. Assumes nothing.
 use Rattle.io.proofs.Counting.{counts}
-use Rattle.show.proofs.Room.{line-within}
+use Rattle.reporting.proofs.Room.{line-within}
 use borrow.Author.Needs.{needs}
 use Rattle.framelog.proofs.refused_line.Statement.{statement}
 use Rattle.framelog.proofs.refused_line.Tie as tie

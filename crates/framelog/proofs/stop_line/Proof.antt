@@ -1,6 +1,6 @@
 -- `framelog::stop_line` meets its contract. Assumes nothing.
 use Rattle.io.proofs.Counting.{counts}
-use Rattle.show.proofs.Room.{line-within}
+use Rattle.reporting.proofs.Room.{line-within}
 use borrow.Author.Needs.{needs}
 use Rattle.framelog.proofs.stop_line.Statement.{statement}
 use Rattle.framelog.proofs.stop_line.Tie as tie
