@@ -11,7 +11,7 @@ use mir.Syntax.{w32}
 use mir.Val.{toZ, ofZ, SFits}
 use mir.Facts.{toZ-ofZ}
 use Rattle.reporting.specs.Ascii.{ascii}
-use Rattle.reporting.specs.Numbers.{decimal, digits, sign, fixed}
+use Rattle.reporting.specs.Numbers.{digits, decimal, sign, inPlaces, fixed}
 
 -- a signed word is at most 2^31 away from 0
 pub magnitude-fits : (z : ℤ) → SFits w32 z → natAbs z ≤ 2 ^ 31
@@ -37,7 +37,12 @@ has-sign z f e = below z (ap (λ (x : ℤ). ltZ x (pos 0)) (sym (toZ-ofZ f)) ∙
 pub no-sign : (z : ℤ) → SFits w32 z → ltZ (toZ w32 (ofZ w32 z)) (pos 0) ≡ false → [] ≡ sign z
 no-sign z f e = not-below z (ap (λ (x : ℤ). ltZ x (pos 0)) (sym (toZ-ofZ f)) ∙ e)
 
--- the four pieces in a row
-pub pieces : (k unit m : ℕ) (z : ℤ) → unit ≡ 10 ^ k → m ≡ natAbs z → ((sign z ++ decimal (m / unit)) ++ ascii ".") ++ digits k m ≡ fixed k z
+-- the three pieces in a row
+pub pieces : (k unit m : ℕ) → unit ≡ 10 ^ k → (decimal (m / unit) ++ ascii ".") ++ digits k m ≡ inPlaces k m
+unfolding inPlaces
+pieces k unit m e = rw e (append-assoc (decimal (m / 10 ^ k)) (ascii ".") (digits k m))
+
+-- the sign before them
+pub signed : (k : ℕ) (z : ℤ) {m : ℕ} → m ≡ natAbs z → sign z ++ inPlaces k m ≡ fixed k z
 unfolding fixed
-pieces k unit m z e f = rw (e, f) (simp append-assoc)
+signed k z e = ap (λ (m : ℕ). sign z ++ inPlaces k m) e

@@ -14,10 +14,13 @@ use crate::words::put;
 use crate::words::put_word;
 use frame::position::Position;
 ghost use mathlib.Core.Path.{_≡_};
-ghost use Prim.Native.Nat.{_+_, _≤_};
+ghost use mathlib.Core.List.{_++_};
+ghost use Prim.Native.Nat.{_+_, _*_, _≤_, _<_};
 ghost use lib.ListN.{length};
 ghost use lib.Dec.{leb};
 ghost use Rattle.octets.specs.Places.{Wrote};
+ghost use Rattle.reporting.specs.Ascii.{ascii};
+ghost use Rattle.reporting.specs.Escapes.{escaped};
 ghost use Rattle.reporting.specs.Lines.{lineOf, positionLineOf, stopLineOf, roomFor, Line};
 
 // Room for all of a line but the bytes that are escaped, each of which may take four.
@@ -34,6 +37,15 @@ fn is_enough(room: usize, n: usize) -> bool
     }
 }
 
+// s, escaped, and the line's end.
+fn put_end(out: &mut [u8], at: usize, s: &[u8]) -> usize
+    requires { ⌜ at + 4 * length (now s) < length (now out) ⌝ }
+    ensures { λ r. ⌜ Wrote (now (out .entry)) at (escaped (now (s .entry)) ++ ascii "\n") (now (out .exit)) r ⌝ }
+{
+    let told = put_escaped(out, at, s);
+    put(out, told, b'\n')
+}
+
 // The line of a frame, where there is room for it.
 fn put_line(out: &mut [u8], offset: u64, kind: u8, answer: u8, label: &[u8], s: &[u8]) -> usize
     requires { ⌜ roomFor (length (now label) + length (now s)) ≤ length (now out) ⌝ }
@@ -42,8 +54,7 @@ fn put_line(out: &mut [u8], offset: u64, kind: u8, answer: u8, label: &[u8], s: 
     let head = put_head(out, 0, offset, kind, answer);
     let space = put(out, head, b' ');
     let named = put_escaped(out, space, label);
-    let told = put_escaped(out, named, s);
-    put(out, told, b'\n')
+    put_end(out, named, s)
 }
 
 // length, or 0 where out has no room, which it then leaves as it was.
@@ -84,8 +95,7 @@ fn put_stop_line(out: &mut [u8], reason: u8, offset: u64, frames: u64, note: &[u
     ensures { λ r. ⌜ Wrote (now (out .entry)) 0 (stopLineOf reason offset frames (now (note .entry))) (now (out .exit)) r ⌝ }
 {
     let stopped = put_stop(out, 0, reason, offset, frames);
-    let told = put_escaped(out, stopped, note);
-    put(out, told, b'\n')
+    put_end(out, stopped, note)
 }
 
 // The last line of a log's report, with a note that is escaped.

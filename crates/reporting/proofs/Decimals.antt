@@ -1,11 +1,11 @@
--- Decimal digits: the bound on their count is no matter once it is enough, and how many there are. Assumes nothing.
+-- Decimal digits, and how many there are: the bound on their count is no matter once it is enough. Assumes nothing.
 use Prim.Native.Nat.{ℕ, zero, suc, _+_, _-_, _/_, _^_, _≤_, _<_}
 use mathlib.Core.Path.{_≡_, refl, sym, ap, _∙_}
 use mathlib.Core.List.{List, [], _∷_, _++_}
 use native.Mathlib.Nat.{pow-suc}
 use native.Mathlib.Omega.{arith}
 use lib.ListN.{length, length-append}
-use Rattle.reporting.specs.Numbers.{lastDigit, leading, decimal, digits}
+use Rattle.reporting.specs.Numbers.{lastDigit, digits, leading, digitCount}
 
 -- the last k digits
 
@@ -26,7 +26,7 @@ unfolding digits
 digits-length zero n = refl
 digits-length (suc k) n = length-append (digits k (n / 10)) (lastDigit n ∷ []) ∙ ap (λ (j : ℕ). j + 1) (digits-length k (n / 10)) ∙ omega arith
 
--- all digits
+-- how many digits
 
 enough : (j k n : ℕ) → n ≤ j → n ≤ k → leading j n ≡ leading k n
 unfolding leading
@@ -36,34 +36,22 @@ enough zero (suc k) (suc n) hj hk = absurd (omega arith)
 enough (suc j) zero zero hj hk = refl
 enough (suc j) zero (suc n) hj hk = absurd (omega arith)
 enough (suc j) (suc k) zero hj hk = refl
-enough (suc j) (suc k) (suc n) hj hk = ap (λ (l : List ℕ). l ++ (lastDigit (suc n) ∷ [])) (enough j k (suc n / 10) (omega arith) (omega arith))
+enough (suc j) (suc k) (suc n) hj hk = ap suc (enough j k (suc n / 10) (omega arith) (omega arith))
 
-none : (k : ℕ) → [] ≡ leading k 0
+pub leading-none : (k n : ℕ) → n ≡ 0 → leading k n ≡ 0
 unfolding leading
-none zero = refl
-none (suc k) = refl
+leading-none zero n e = refl
+leading-none (suc k) zero e = refl
+leading-none (suc k) (suc n) e = absurd (omega arith)
 
-some : (k n : ℕ) → 1 ≤ n → n ≤ k → decimal n ≡ leading k n
-unfolding leading decimal
-some zero n h l = absurd (omega arith)
-some (suc k) zero h l = absurd (omega arith)
-some (suc k) (suc n) h l = ap (λ (d : List ℕ). d ++ (lastDigit (suc n) ∷ [])) (enough (suc n) k (suc n / 10) (omega arith) (omega arith))
+pub leading-more : (k n : ℕ) → 1 ≤ n → n ≤ k → leading k n ≡ suc (leading k (n / 10))
+unfolding leading
+leading-more zero n h l = absurd (omega arith)
+leading-more (suc k) zero h l = absurd (omega arith)
+leading-more (suc k) (suc n) h l = ap suc (enough k (suc k) (suc n / 10) (omega arith) (omega arith))
 
-pub decimal-small : (n : ℕ) → n < 10 → lastDigit n ∷ [] ≡ decimal n
-unfolding decimal
-decimal-small n h =
-    let e : 0 ≡ n / 10 = omega arith in
-    ap (λ (l : List ℕ). l ++ (lastDigit n ∷ [])) (none n ∙ ap (leading n) e)
-
-pub decimal-more : (n : ℕ) → 10 ≤ n → decimal (n / 10) ++ (lastDigit n ∷ []) ≡ decimal n
-unfolding decimal
-decimal-more n h = ap (λ (l : List ℕ). l ++ (lastDigit n ∷ [])) (some n (n / 10) (omega arith) (omega arith))
-
-pub decimal-longer : (n : ℕ) → 10 ≤ n → length (decimal n) ≡ length (decimal (n / 10)) + 1
-decimal-longer n h = ap length (sym (decimal-more n h)) ∙ length-append (decimal (n / 10)) (lastDigit n ∷ [])
-
--- a number below 10^k has at most k digits, where k is not 0
-few : (k j n : ℕ) → n < 10 ^ k → length (leading j n) ≤ k
+-- a number below 10^k has at most k digits
+few : (k j n : ℕ) → n < 10 ^ k → leading j n ≤ k
 unfolding leading
 few k zero n h = omega arith
 few k (suc j) zero h = omega arith
@@ -71,11 +59,11 @@ few zero (suc j) (suc n) h = absurd (omega arith)
 few (suc k) (suc j) (suc n) h =
     let p = pow-suc 10 k in
     let l = few k j (suc n / 10) (omega arith) in
-    rw length-append (omega arith)
+    omega arith
 
-pub decimal-length : (k n : ℕ) → n < 10 ^ suc k → length (decimal n) ≤ suc k
-unfolding decimal
-decimal-length k n h =
+-- where k is not 0, 0 among them
+pub count-few : (k n : ℕ) → n < 10 ^ suc k → digitCount n ≤ suc k
+count-few k n h =
     let p = pow-suc 10 k in
     let l = few k n (n / 10) (omega arith) in
-    rw length-append (omega arith)
+    omega arith

@@ -10,7 +10,7 @@ use lib.Dec.{ltb, leb, eqb}
 use lib.IntN.{ℤ, pos, negsuc, natAbs}
 use Rattle.octets.proofs.Numbers.{Bytes}
 use Rattle.reporting.specs.Ascii.{ascii}
-use Rattle.reporting.specs.Numbers.{lastDigit, leading, decimal, digits, sign, fixed}
+use Rattle.reporting.specs.Numbers.{lastDigit, digits, digitCount, decimal, sign, inPlaces, fixed}
 use Rattle.reporting.specs.Escapes.{plain, hexDigit, hexEscape, shown, escaped}
 use Rattle.reporting.specs.Lines.{headOf, lineOf, anglesOf, heightOf, positionLineOf, stopOf, stopLineOf}
 
@@ -51,22 +51,16 @@ unfolding digits
 safe-digits zero n = none
 safe-digits (suc k) n = joined (digits k (n / 10)) (lastDigit n ∷ []) (safe-digits k (n / 10)) (digit n)
 
-safe-leading : (k n : ℕ) → Printable (leading k n)
-unfolding leading
-safe-leading zero n = none
-safe-leading (suc k) zero = none
-safe-leading (suc k) (suc n) = joined (leading k (suc n / 10)) (lastDigit (suc n) ∷ []) (safe-leading k (suc n / 10)) (digit (suc n))
-
 pub safe-decimal : (n : ℕ) → Printable (decimal n)
 unfolding decimal
-safe-decimal n = joined (leading n (n / 10)) (lastDigit n ∷ []) (safe-leading n (n / 10)) (digit n)
+safe-decimal n = safe-digits (digitCount n) n
 
 safe-sign : (z : ℤ) → Printable (sign z)
 safe-sign (pos n) = none
 safe-sign (negsuc n) = one 45 (omega arith) (omega arith)
 
 pub safe-fixed : (k : ℕ) (z : ℤ) → Printable (fixed k z)
-unfolding fixed
+unfolding fixed inPlaces
 safe-fixed k z =
     joined (sign z) _ (safe-sign z)
     (joined (decimal (natAbs z / 10 ^ k)) _ (safe-decimal (natAbs z / 10 ^ k)) (joined (ascii ".") _ (one 46 (omega arith) (omega arith)) (safe-digits k (natAbs z))))

@@ -1,20 +1,21 @@
 -- `report::numbers::put_decimal` meets its contract. Assumes nothing.
+use Prim.Native.Nat.{ℕ}
+use mathlib.Core.Path.{ap}
 use native.Mathlib.Omega.{arith}
-use Rattle.reporting.proofs.Decimals.{decimal-length}
+use Rattle.octets.proofs.Places.{wrote-as}
+use Rattle.reporting.specs.Numbers.{digits, decimal}
+use Rattle.reporting.proofs.Decimals.{digits-length}
 use borrow.Author.Needs.{needs}
 use Rattle.report.proofs.numbers.put_decimal.Statement.{statement}
 use Rattle.report.proofs.numbers.put_decimal.Tie as tie
 
-put-all-digits-requires : tie.Need-put-all-digits-requires
-put-all-digits-requires c κs =
-    let start = c .before .before in
-    omega (arith, decimal-length 19 (start .args .n) (omega arith))
-
 returns : tie.Need-returns
+unfolding decimal
 returns c =
-    let start = c .before .before .before .before .before in
-    let w = c .before .before .put-all-digits .ensures in
-    (w, omega (arith, decimal-length 19 (start .args .n) (omega arith)))
+    let put = c .before .before in
+    let counted = put .before in
+    let start = counted .before .before .before in
+    (wrote-as (ap (λ (k : ℕ). digits k (start .args .n)) (counted .digit-count .ensures .0)) (put .put-digits .ensures), omega (arith, put .put-digits .ensures .next-is, digits-length (counted .digit-count .result) (start .args .n)))
 
 pub put-decimal-spec : {M : Type 1} → statement M
-put-decimal-spec = tie.close (tie.spec put-all-digits-requires (λ c. search needs) returns)
+put-decimal-spec = tie.close (tie.spec (λ c κs. search needs) (λ c κs. search needs) (λ c. search needs) returns)
