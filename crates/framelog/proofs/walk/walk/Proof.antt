@@ -1,11 +1,11 @@
--- `framelog::walk` meets its contract. Assumes nothing.
+-- `framelog::walk::walk` meets its contract. Assumes nothing.
 use mathlib.Core.Path.{_≡_, sym, _∙_, subst}
 use borrow.Author.Needs.{needs}
 use native.Mathlib.Omega.{arith}
 use lib.ListN.{length}
 use Rattle.framelog.specs.Place.{Sound, budget}
-use Rattle.framelog.proofs.walk.Statement.{statement}
-use Rattle.framelog.proofs.walk.Tie as tie
+use Rattle.framelog.proofs.walk.walk.Statement.{statement}
+use Rattle.framelog.proofs.walk.walk.Tie as tie
 
 abbrev Inv-loop : tie.InvT-loop
 Inv-loop fd path key len window₀ p₀ window p = (length window ≡ 4096) × Sound p 4096
@@ -14,7 +14,7 @@ abbrev μ-loop : tie.MeasureT-loop
 μ-loop fd path key len window₀ p₀ window p = budget p
 
 loop-holds : tie.Need-loop-holds Inv-loop μ-loop
-loop-holds c = (sym (c .buffer .ensures), record { forwards = omega arith; within = omega arith; log = omega arith; counted = omega arith })
+loop-holds c = (sym (c .buffer .ensures), record { forwards = omega arith; within = omega arith; longest = omega arith; log = omega arith; counted = omega arith })
 
 loop-less : tie.Need-loop-less Inv-loop μ-loop
 loop-less c = c .before .turn .ensures .1

@@ -1,4 +1,4 @@
--- `framelog::frame_line` meets its contract. Assumes nothing.
+-- `framelog::lines::frame_line` meets its contract. Assumes nothing.
 use mathlib.Core.Path.{sym, _∙_}
 use native.Mathlib.Omega.{arith}
 use lib.Seq.{length-take-le}
@@ -6,8 +6,8 @@ use Rattle.framelog.proofs.Texts.{text-fits}
 use Rattle.io.proofs.Counting.{counts}
 use Rattle.reporting.proofs.Room.{line-within}
 use borrow.Author.Needs.{needs}
-use Rattle.framelog.proofs.frame_line.Statement.{statement}
-use Rattle.framelog.proofs.frame_line.Tie as tie
+use Rattle.framelog.proofs.lines.frame_line.Statement.{statement}
+use Rattle.framelog.proofs.lines.frame_line.Tie as tie
 
 array-share-prefix-plain : tie.Need-array-share-prefix-plain
 array-share-prefix-plain c =

@@ -1,4 +1,4 @@
--- `framelog::turn` meets its contract. Assumes nothing.
+-- `framelog::walk::turn` meets its contract. Assumes nothing.
 use Prim.Native.Nat.{ℕ, _-_, _≤_}
 use mathlib.Core.Path.{_≡_, sym, _∙_}
 use mathlib.Core.List.{List}
@@ -7,10 +7,10 @@ use lib.ListN.{length, take, drop, length-drop}
 use lib.Seq.{length-take-le}
 use Rattle.frame.proofs.Whole.{IsWhole, whole-is, whole-bounds}
 use Rattle.window.proofs.InPieces.{reported-whole}
-use Rattle.framelog.proofs.Places.{some-left, after-frame, after-end}
+use Rattle.framelog.proofs.Places.{some-left, has-room, after-frame, after-end}
 use borrow.Author.Needs.{needs}
-use Rattle.framelog.proofs.turn.Statement.{statement}
-use Rattle.framelog.proofs.turn.Tie as tie
+use Rattle.framelog.proofs.walk.turn.Statement.{statement}
+use Rattle.framelog.proofs.walk.turn.Tie as tie
 
 -- where a frame was found: what was given, and the bytes held
 abbrev given : tie.After-kind → tie.Start
@@ -50,7 +50,8 @@ refill-requires : tie.Need-refill-requires
 refill-requires c κs =
     let stepped = c .before .before .before in
     let start = stepped .before .before .before .before .before .before .before in
-    (start .pre .0, start .pre .1, some-left _ _ (sym (c .before .enum-told .given .1) ∙ stepped .next-step .ensures))
+    let more = sym (c .before .enum-told .given .1) ∙ stepped .next-step .ensures in
+    (start .pre .0, start .pre .1, some-left _ _ more, has-room _ _ _ (start .pre .0) more)
 
 returns : tie.Need-returns
 returns c =

@@ -1,9 +1,9 @@
--- `framelog::measure` meets its contract. Assumes nothing.
+-- `framelog::length::measure` meets its contract. Assumes nothing.
 use Prim.Native.Nat.{_+_, _-_, _≤_}
 use borrow.Author.Needs.{needs}
 use Rattle.sealing.specs.Limits.{maxLog}
-use Rattle.framelog.proofs.measure.Statement.{statement}
-use Rattle.framelog.proofs.measure.Tie as tie
+use Rattle.framelog.proofs.length.measure.Statement.{statement}
+use Rattle.framelog.proofs.length.measure.Tie as tie
 
 abbrev Inv-loop : tie.InvT-loop
 Inv-loop fd path len₀ len = len ≤ maxLog + 65536

@@ -1,9 +1,9 @@
--- `framelog::stop_line` meets its contract. Assumes nothing.
+-- `framelog::lines::stop_line` meets its contract. Assumes nothing.
 use Rattle.io.proofs.Counting.{counts}
 use Rattle.reporting.proofs.Room.{line-within}
 use borrow.Author.Needs.{needs}
-use Rattle.framelog.proofs.stop_line.Statement.{statement}
-use Rattle.framelog.proofs.stop_line.Tie as tie
+use Rattle.framelog.proofs.lines.stop_line.Statement.{statement}
+use Rattle.framelog.proofs.lines.stop_line.Tie as tie
 
 returns : tie.Need-returns
 returns c = counts _ _ (line-within (c .before .before .stop-line .ensures))
