@@ -1,3 +1,4 @@
--- The laws of the program framelog.
-pub mod Places
+-- The laws of the program framelog: of a log's length, of a text that was read, and of where the reader stands.
+pub mod Lengths
 pub mod Texts
+pub mod Places
