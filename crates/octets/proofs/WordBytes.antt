@@ -44,8 +44,11 @@ bytes32 x h =
 pub cells-of : (k x : ℕ) {b : List ℕ} → b ≡ bytesOf k x → cells 0 k b ≡ bytesOf k x
 cells-of k x e = ap (cells 0 k) e ∙ ap (λ j. cells 0 j (bytesOf k x)) (sym (bytesOf-length k x)) ∙ cells-all (bytesOf k x)
 
+-- two words of k bytes, read one by one, are the bytes of their double word
+pub cells-++ : (k m n : ℕ) {low high : List ℕ} → m < 256 ^ k → low ≡ bytesOf k m → high ≡ bytesOf k n → cells 0 k low ++ cells 0 k high ≡ bytesOf (k + k) (n * 256 ^ k + m)
+cells-++ k m n l p q = ap₂ (λ (a b : List ℕ). a ++ b) (cells-of k m p) (cells-of k n q) ∙ sym (bytesOf-++ k k m n l)
+
 pub bytes64 : (x : ℕ) {low high : List ℕ} → low ≡ bytesOf 4 (x % 2 ^ 32) → high ≡ bytesOf 4 (x / 2 ^ 32) → cells 0 4 low ++ cells 0 4 high ≡ bytesOf 8 x
 bytes64 x p q =
     let cut : x / 2 ^ 32 * 256 ^ 4 + x % 2 ^ 32 ≡ x = omega arith in
-    ap₂ (λ (a b : List ℕ). a ++ b) (cells-of 4 (x % 2 ^ 32) p) (cells-of 4 (x / 2 ^ 32) q)
-    ∙ sym (bytesOf-++ 4 4 (x % 2 ^ 32) (x / 2 ^ 32) (omega arith)) ∙ ap (bytesOf 8) cut
+    cells-++ 4 (x % 2 ^ 32) (x / 2 ^ 32) (omega arith) p q ∙ ap (bytesOf 8) cut

@@ -1,4 +1,4 @@
--- `little_endian::le32` meets its contract. Assumes nothing.
+-- `octets::words::le32` meets its contract. Assumes nothing.
 use borrow.Author.Needs.{needs}
 use Rattle.octets.proofs.WordBytes.{joined32}
 use Rattle.octets.proofs.words.le32.Statement.{statement}

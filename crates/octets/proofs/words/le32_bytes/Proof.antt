@@ -1,4 +1,4 @@
--- `little_endian::le32_bytes` meets its contract. Assumes nothing.
+-- `octets::words::le32_bytes` meets its contract. Assumes nothing.
 use borrow.Author.Needs.{needs}
 use Rattle.octets.proofs.WordBytes.{bytes32}
 use Rattle.octets.proofs.words.le32_bytes.Statement.{statement}
