@@ -20,9 +20,7 @@ pub fn counter_block(tag: [u8; 16]) -> [u8; 16]
 pub(crate) fn next_counter(b: [u8; 16]) -> [u8; 16]
     ensures { λ r. ⌜ r ≡ nextCounter b ⌝ }
 {
-    let count = le32_bytes(
-        std::num::wrapping_add_u32(le32(b[0], b[1], b[2], b[3]), 1),
-    );
+    let count = le32_bytes(std::num::wrapping_add_u32(le32(b[0], b[1], b[2], b[3]), 1));
     let mut next = b;
     next[0] = count[0];
     next[1] = count[1];
