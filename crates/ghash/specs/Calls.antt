@@ -10,6 +10,7 @@ use Rattle.octets.specs.Numbers.{bytesOf}
 use Rattle.field.specs.Element.{value, element}
 use Rattle.rfc8452.specs.Machine.{run, polyval}
 use Rattle.rfc8452.specs.Blocks.{blocks}
+use Rattle.rfc8452.specs.AppendixA.{reversed, keyFor}
 use Rattle.sp800_38d.specs.Ghash.{ghashOf, bits, bitBlocks}
 use Rattle.ghash.specs.declared.parts.Ghash.{Ghash}
 use Rattle.ghash.specs.declared.parts.Started.{Started}
