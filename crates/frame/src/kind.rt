@@ -1,16 +1,10 @@
-// The kinds of frame and the lengths of each (document 01, "Frame", the table), in one place. Assumes
-// nothing.
+// Whether a kind is known, and whether it may have a sealed part of some length (document 01, "Frame", the
+// table). Assumes nothing.
+use framing::kind::CHECK_IN;
+use framing::kind::POSITION;
+use framing::kind::TEXT;
 ghost use mathlib.Core.Path.{_≡_};
-ghost use Rattle.frame.specs.Kinds.{isKnown, isAllowed};
-
-pub const POSITION: u8 = 1;
-
-pub const TEXT: u8 = 2;
-
-pub const CHECK_IN: u8 = 3;
-
-// The longest plaintext of a frame of any kind.
-pub const MAX_PLAINTEXT: usize = 160;
+ghost use Rattle.framing.specs.Kinds.{isKnown, isAllowed};
 
 pub fn is_known(kind: u8) -> bool
     ensures { λ r. ⌜ r ≡ isKnown kind ⌝ }

@@ -8,11 +8,11 @@ use lib.Dec.{eqb}
 use lib.IntN.{ℤ}
 use lib.ListN.{length}
 use Rattle.answer.specs.Answers.{done}
-use Rattle.frame.specs.declared.Front.the-variants.{Whole}
-use Rattle.frame.specs.Position.{positionOf}
-use Rattle.frame.specs.Kinds as kinds
-use Rattle.frame.specs.Kinds.{maxFramePlaintext}
-use Rattle.frame.specs.Front.{kindOf, takenOf, frontOf}
+use Rattle.framing.specs.declared.Front.the-variants.{Whole}
+use Rattle.framing.specs.Position.{positionOf}
+use Rattle.framing.specs.Kinds as kinds
+use Rattle.framing.specs.Kinds.{maxFramePlaintext}
+use Rattle.framing.specs.Front.{kindOf, takenOf, frontOf}
 use Rattle.message.specs.declared.Message.the-variants as message
 use Rattle.message.specs.Parts.{openedIn}
 use Rattle.message.specs.Read.{readAnswer, readOf}

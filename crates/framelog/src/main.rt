@@ -3,7 +3,7 @@
 // before the first line. Where a file cannot be read, the reason goes to standard error.
 use answer::DONE;
 use files::Got;
-use frame::position::Position;
+use framing::position::Position;
 use libc::STDERR_FILENO;
 use libc::STDOUT_FILENO;
 use message::Message;
@@ -14,9 +14,9 @@ ghost use Prim.Native.Nat.{_+_, _≤_, _<_};
 ghost use lib.ListN.{length};
 ghost use Rattle.sealing.specs.Limits.{maxLog};
 ghost use Rattle.io.specs.Counts.{Counts};
-ghost use Rattle.frame.specs.declared.Front.the-variants.{Whole};
-ghost use Rattle.frame.specs.Kinds.{maxFramePlaintext};
-ghost use Rattle.frame.specs.Front.{frontOf};
+ghost use Rattle.framing.specs.declared.Front.the-variants.{Whole};
+ghost use Rattle.framing.specs.Kinds.{maxFramePlaintext};
+ghost use Rattle.framing.specs.Front.{frontOf};
 ghost use Rattle.framelog.specs.Place.{Sound, budget};
 
 // What a key file may have at most, and a byte more, so that a longer one is told.
@@ -40,10 +40,10 @@ struct Measured {
 }
 
 // Room for the plaintext of any frame.
-fn scratch() -> [u8; frame::kind::MAX_PLAINTEXT]
+fn scratch() -> [u8; framing::kind::MAX_PLAINTEXT]
     ensures { λ r. ⌜ maxFramePlaintext ≡ length r ⌝ }
 {
-    [0; frame::kind::MAX_PLAINTEXT]
+    [0; framing::kind::MAX_PLAINTEXT]
 }
 
 // The line of a frame that was refused, with what the answer means.

@@ -16,7 +16,7 @@ use Rattle.hash.specs.declared.Hash.{Hash}
 use Rattle.hash.specs.declared.Fed.{Fed}
 use Rattle.hash.specs.Calls.{recordAnswer, resetOf}
 use Rattle.join.specs.declared.Joined.{Joined}
-use Rattle.frame.specs.declared.position.Position.{Position}
+use Rattle.framing.specs.declared.position.Position.{Position}
 use Rattle.ghash.specs.declared.parts.Started.{Started}
 use Rattle.message.specs.Message.{Values}
 use Rattle.octets.specs.Places.{Puts}

@@ -10,12 +10,12 @@ use lib.Dec.{eqb}
 use lib.ListN.{length, take, drop}
 use lib.Seq.{take-at}
 use Rattle.octets.proofs.Numbers.{Bytes, bytes-take}
-use Rattle.frame.specs.declared.position.Position.{Position}
-use Rattle.frame.specs.Position.{positionOf, positionBytes}
-use Rattle.frame.specs.Kinds as kinds
-use Rattle.frame.specs.Kinds.{isKnown, isAllowed}
-use Rattle.frame.specs.Front.{kindOf, takenOf}
-use Rattle.frame.proofs.RoundTrip.{bytes-position}
+use Rattle.framing.specs.declared.position.Position.{Position}
+use Rattle.framing.specs.Position.{positionOf, positionBytes}
+use Rattle.framing.specs.Kinds as kinds
+use Rattle.framing.specs.Kinds.{isKnown, isAllowed}
+use Rattle.framing.specs.Front.{kindOf, takenOf}
+use Rattle.framing.proofs.RoundTrip.{bytes-position}
 use Rattle.message.specs.declared.Message.{Message}
 use Rattle.message.specs.declared.Message.the-variants as message
 use Rattle.message.specs.Parts.{frameOf, nonceIn, openedIn}

@@ -4,10 +4,10 @@ use mathlib.Core.Path.{_≡_, _∙_}
 use mathlib.Core.List.{List, [], _++_}
 use native.Mathlib.Omega.{arith}
 use lib.ListN.{length}
-use Rattle.frame.specs.declared.position.Position.{Position}
-use Rattle.frame.specs.Position.{positionBytes}
-use Rattle.frame.proofs.RoundTrip.{Fits, position-length, position-bytes}
-use Rattle.frame.specs.Kinds as kinds
+use Rattle.framing.specs.declared.position.Position.{Position}
+use Rattle.framing.specs.Position.{positionBytes}
+use Rattle.framing.proofs.RoundTrip.{Fits, position-length, position-bytes}
+use Rattle.framing.specs.Kinds as kinds
 use Rattle.message.specs.declared.Message.the-variants as message
 use Rattle.message.specs.Parts.{frameOf}
 use Rattle.message.specs.Message.{ofPosition}

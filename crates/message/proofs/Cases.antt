@@ -8,12 +8,12 @@ use lib.IntN.{pos}
 use lib.ListN.{length, take}
 use Rattle.octets.specs.Numbers.{number, bytesOf}
 use Rattle.answer.specs.Answers.{keyLength, unknownKind, lengthForKind, cutShort, outOfRange}
-use Rattle.frame.specs.declared.position.Position.{Position}
-use Rattle.frame.specs.Position.{positionOf, positionBytes}
-use Rattle.frame.specs.Kinds as kinds
-use Rattle.frame.specs.Front.{mark}
-use Rattle.frame.proofs.RoundTrip.{position-length}
-use Rattle.frame.proofs.Cases as frames
+use Rattle.framing.specs.declared.position.Position.{Position}
+use Rattle.framing.specs.Position.{positionOf, positionBytes}
+use Rattle.framing.specs.Kinds as kinds
+use Rattle.framing.specs.Front.{mark}
+use Rattle.framing.proofs.RoundTrip.{position-length}
+use Rattle.framing.proofs.Cases as frames
 use Rattle.message.specs.declared.Message.the-variants.{Refused}
 use Rattle.message.specs.Parts.{frameOf}
 use Rattle.message.specs.Message.{contentAnswer}

@@ -7,10 +7,10 @@ use native.Mathlib.Omega.{arith}
 use borrow.Author.Tests.{eq-eqb, ne-eqb, eqb-true}
 use lib.ListN.{length}
 use Rattle.answer.specs.Answers.{done, outOfRange}
-use Rattle.frame.specs.declared.position.Position.{Position}
-use Rattle.frame.specs.Position.{inRange, positionOf}
-use Rattle.frame.specs.Kinds as kinds
-use Rattle.frame.specs.Kinds.{isAllowed}
+use Rattle.framing.specs.declared.position.Position.{Position}
+use Rattle.framing.specs.Position.{inRange, positionOf}
+use Rattle.framing.specs.Kinds as kinds
+use Rattle.framing.specs.Kinds.{isAllowed}
 use Rattle.message.specs.declared.Message.the-variants as message
 use Rattle.message.specs.Message.{contentAnswer, ofPosition, messageOf}
 

@@ -5,9 +5,9 @@ use mathlib.Core.Path.{_≡_, sym, subst}
 use mathlib.Core.List.{List, [], _∷_, _++_}
 use lib.ListN.{length, take}
 use Rattle.answer.specs.Answers.{cutShort}
-use Rattle.frame.specs.Scan.{scanOf}
-use Rattle.frame.proofs.Longest.{IsFrame, Frames, joined, all-frames}
-use Rattle.frame.proofs.NoCutFrame.{cut-behind-frames}
+use Rattle.framing.specs.Scan.{scanOf}
+use Rattle.framing.proofs.Longest.{IsFrame, Frames, joined, all-frames}
+use Rattle.framing.proofs.NoCutFrame.{cut-behind-frames}
 use Rattle.message.specs.Parts.{frameOf}
 use Rattle.message.specs.Write.{writeAnswer}
 use Rattle.message.proofs.Writing.{is-frame}

@@ -8,9 +8,9 @@ use mathlib.Core.List.{List}
 use native.Mathlib.Omega.{arith}
 use lib.ListN.{length, take}
 use Rattle.answer.specs.Answers.{cutShort}
-use Rattle.frame.specs.Scan.{none, scanOf}
-use Rattle.frame.proofs.Longest.{IsFrame}
-use Rattle.frame.proofs.NoCutFrame.{cut-is-12, cut-scans-none}
+use Rattle.framing.specs.Scan.{none, scanOf}
+use Rattle.framing.proofs.Longest.{IsFrame}
+use Rattle.framing.proofs.NoCutFrame.{cut-is-12, cut-scans-none}
 use Rattle.message.specs.declared.Message.the-variants.{Refused}
 use Rattle.message.specs.Parts.{frameOf}
 use Rattle.message.specs.Write.{writeAnswer}

@@ -17,11 +17,11 @@ use Rattle.sealing.proofs.Refusals.{open-no-room, open-room}
 use Rattle.sealing.proofs.Done.{openable}
 use Rattle.rfc8452.specs.Siv.{authentic}
 use Rattle.sealing.specs.Siv.{openAnswer, Opens}
-use Rattle.frame.specs.declared.Front.the-variants.{Whole, Stop}
-use Rattle.frame.specs.Kinds.{isAllowed, maxFramePlaintext}
-use Rattle.frame.specs.Front.{kindOf, sealedLen, takenOf, stopOf, frontOf}
-use Rattle.frame.proofs.Fronts.{reason}
-use Rattle.frame.proofs.Whole.{IsWhole, is-whole, whole-bounds, no-reason}
+use Rattle.framing.specs.declared.Front.the-variants.{Whole, Stop}
+use Rattle.framing.specs.Kinds.{isAllowed, maxFramePlaintext}
+use Rattle.framing.specs.Front.{kindOf, sealedLen, takenOf, stopOf, frontOf}
+use Rattle.framing.proofs.Fronts.{reason}
+use Rattle.framing.proofs.Whole.{IsWhole, is-whole, whole-bounds, no-reason}
 use Rattle.message.specs.declared.Message.{Message}
 use Rattle.message.specs.declared.Message.the-variants.{Refused}
 use Rattle.message.specs.Parts.{adIn, nonceIn, sealedIn, openedIn}

@@ -16,10 +16,10 @@ use Rattle.sealing.specs.Calls.{written}
 use Rattle.sealing.proofs.Done.{Openable, open-done, openable}
 use Rattle.rfc8452.specs.Siv.{sealed, opened, authentic}
 use Rattle.sealing.specs.Siv.{openAnswer}
-use Rattle.frame.specs.declared.Front.the-variants.{Whole}
-use Rattle.frame.specs.Kinds.{isKnown, isAllowed, maxFramePlaintext}
-use Rattle.frame.specs.Front.{kindOf, sealedLen, takenOf, stopOf, frontOf}
-use Rattle.frame.proofs.Whole.{IsWhole, is-whole, whole-is, whole-bounds, whole-before, no-reason}
+use Rattle.framing.specs.declared.Front.the-variants.{Whole}
+use Rattle.framing.specs.Kinds.{isKnown, isAllowed, maxFramePlaintext}
+use Rattle.framing.specs.Front.{kindOf, sealedLen, takenOf, stopOf, frontOf}
+use Rattle.framing.proofs.Whole.{IsWhole, is-whole, whole-is, whole-bounds, whole-before, no-reason}
 use Rattle.message.specs.Parts.{adOf, frameOf, adIn, nonceIn, sealedIn, openedIn}
 use Rattle.message.specs.Message.{contentAnswer, messageOf}
 use Rattle.message.specs.Write.{writeAnswer}

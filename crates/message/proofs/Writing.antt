@@ -18,10 +18,10 @@ use Rattle.sealing.specs.Calls.{written}
 use Rattle.sealing.proofs.Done.{seal-done, sealable}
 use Rattle.rfc8452.specs.Siv.{sealed}
 use Rattle.sealing.specs.Siv.{sealAnswer}
-use Rattle.frame.specs.Kinds.{isKnown, isAllowed, maxFramePlaintext}
-use Rattle.frame.specs.Front.{mark, sealedLen}
-use Rattle.frame.proofs.Whole.{IsWhole, whole-is, allowed-bounds}
-use Rattle.frame.proofs.Longest.{IsFrame}
+use Rattle.framing.specs.Kinds.{isKnown, isAllowed, maxFramePlaintext}
+use Rattle.framing.specs.Front.{mark, sealedLen}
+use Rattle.framing.proofs.Whole.{IsWhole, whole-is, allowed-bounds}
+use Rattle.framing.proofs.Longest.{IsFrame}
 use Rattle.message.specs.Parts.{header, adOf, frameOf, adIn, nonceIn, sealedIn}
 use Rattle.message.specs.Message.{contentAnswer}
 use Rattle.message.specs.Write.{kindAnswer, plainAnswer, writeAnswer, writtenOf, writeOut}

@@ -8,9 +8,9 @@ use lib.ListN.{length}
 use lib.Dec.{eqb}
 use Rattle.answer.specs.Answers.{done, outOfRange}
 use Rattle.answer.specs.First.{_⇒_, first}
-use Rattle.frame.specs.declared.position.Position.{Position}
-use Rattle.frame.specs.Position.{inRange, positionOf}
-use Rattle.frame.specs.Kinds as kinds
+use Rattle.framing.specs.declared.position.Position.{Position}
+use Rattle.framing.specs.Position.{inRange, positionOf}
+use Rattle.framing.specs.Kinds as kinds
 use Rattle.message.specs.declared.Message.{Message}
 use Rattle.message.specs.declared.Message.the-variants as message
 

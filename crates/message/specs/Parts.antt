@@ -4,7 +4,7 @@ use mathlib.Core.List.{List, _∷_, _++_}
 use lib.ListN.{length, take, drop}
 use Rattle.octets.specs.Numbers.{bytesOf}
 use Rattle.rfc8452.specs.Siv.{sealed, opened}
-use Rattle.frame.specs.Front.{mark, sealedLen}
+use Rattle.framing.specs.Front.{mark, sealedLen}
 
 -- "Byte 0: 0x4B. Byte 1: kind. Bytes 2-3: little-endian length of the sealed part."
 abbrev pub header : (kind len : ℕ) → List ℕ

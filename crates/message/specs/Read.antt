@@ -10,7 +10,7 @@ use Rattle.answer.specs.Answers.{done}
 use Rattle.answer.specs.First.{_then_}
 use Rattle.sealing.specs.Calls.{written}
 use Rattle.sealing.specs.Siv.{openAnswer}
-use Rattle.frame.specs.Front.{kindOf, takenOf, stopOf}
+use Rattle.framing.specs.Front.{kindOf, takenOf, stopOf}
 use Rattle.message.specs.declared.Message.{Message}
 use Rattle.message.specs.declared.Message.the-variants.{Refused}
 use Rattle.message.specs.Parts.{adIn, nonceIn, sealedIn, openedIn}

@@ -9,7 +9,7 @@ use Rattle.answer.specs.Answers.{done, unknownKind, lengthForKind}
 use Rattle.answer.specs.First.{_⇒_, first, _then_}
 use Rattle.sealing.specs.Calls.{written}
 use Rattle.sealing.specs.Siv.{sealAnswer}
-use Rattle.frame.specs.Kinds.{isKnown, isAllowed}
+use Rattle.framing.specs.Kinds.{isKnown, isAllowed}
 use Rattle.message.specs.declared.Written.{Written}
 use Rattle.message.specs.Parts.{adOf, frameOf}
 use Rattle.message.specs.Message.{contentAnswer}

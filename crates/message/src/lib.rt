@@ -1,8 +1,9 @@
 // Messages: writing a frame and reading one (document 01, "Frame": frame writing, frame reading). What
 // stands in a frame is in the crate frame, sealing and opening are in siv. Assumes nothing.
-use frame::Front;
-use frame::kind;
-use frame::position::Position;
+use framing::Front;
+use framing::kind::POSITION;
+use framing::kind::TEXT;
+use framing::position::Position;
 ghost use mathlib.Core.Path.{_≡_};
 ghost use mathlib.Core.Bool.{true};
 ghost use Prim.Native.Nat.{_+_, _≤_, _<_};
@@ -10,10 +11,10 @@ ghost use mathlib.Core.List.{_++_};
 ghost use lib.ListN.{length, drop};
 ghost use Rattle.sealing.specs.Calls.{written};
 ghost use Rattle.sealing.specs.Siv.{Opens};
-ghost use Rattle.frame.specs.declared.Front.the-variants.{Whole};
-ghost use Rattle.frame.specs.Position.{positionOf};
-ghost use Rattle.frame.specs.Kinds.{isAllowed, maxFramePlaintext};
-ghost use Rattle.frame.specs.Front.{takenOf, frontOf};
+ghost use Rattle.framing.specs.declared.Front.the-variants.{Whole};
+ghost use Rattle.framing.specs.Position.{positionOf};
+ghost use Rattle.framing.specs.Kinds.{isAllowed, maxFramePlaintext};
+ghost use Rattle.framing.specs.Front.{takenOf, frontOf};
 ghost use Rattle.message.specs.Parts.{header, adIn, nonceIn, sealedIn};
 ghost use Rattle.message.specs.Message.{contentAnswer, messageOf};
 ghost use Rattle.message.specs.Write.{plainAnswer, Frames, Writes};
@@ -53,7 +54,7 @@ fn position_in(text: &[u8]) -> Position
 {
     let mut block = [0u8; 16];
     octets::copy(text, &mut block);
-    Position::from_bytes(block)
+    frame::position::from_bytes(block)
 }
 
 // 13, where a position is out of range. Writing asks it before sealing, reading once the tag has agreed.
@@ -61,10 +62,10 @@ fn content_refusal(kind: u8, text: &[u8]) -> u8
     requires { ⌜ isAllowed kind (length (now text) + 16) ≡ true ⌝ }
     ensures { λ r. ⌜ r ≡ contentAnswer kind (now (text .entry)) ⌝ }
 {
-    if kind != kind::POSITION {
+    if kind != POSITION {
         return answer::DONE;
     }
-    if position_in(text).is_in_range() {
+    if frame::position::is_in_range(position_in(text)) {
         answer::DONE
     } else {
         answer::OUT_OF_RANGE
@@ -76,7 +77,7 @@ fn message_of(kind: u8, text: &[u8], taken: usize) -> Message
     requires { ⌜ isAllowed kind (length (now text) + 16) ≡ true ⌝ }
     ensures { λ r. ⌜ r ≡ messageOf kind (now (text .entry)) taken ⌝ }
 {
-    if kind == kind::POSITION {
+    if kind == POSITION {
         let p = position_in(text);
         return Message::Position {
             lat: p.lat,
@@ -86,7 +87,7 @@ fn message_of(kind: u8, text: &[u8], taken: usize) -> Message
             taken,
         };
     }
-    if kind == kind::TEXT {
+    if kind == TEXT {
         return Message::Text {
             len: text.len(),
             taken,
@@ -99,10 +100,10 @@ fn message_of(kind: u8, text: &[u8], taken: usize) -> Message
 fn plain_refusal(kind: u8, text: &[u8]) -> u8
     ensures { λ r. ⌜ r ≡ plainAnswer kind (now (text .entry)) ⌝ }
 {
-    if !kind::is_known(kind) {
+    if !frame::kind::is_known(kind) {
         return answer::UNKNOWN_KIND;
     }
-    if !kind::is_allowed(kind, text.len() + 16) {
+    if !frame::kind::is_allowed(kind, text.len() + 16) {
         return answer::LENGTH_FOR_KIND;
     }
     content_refusal(kind, text)
@@ -114,7 +115,7 @@ fn header(kind: u8, sealed: usize) -> [u8; 4]
     ensures { λ r. ⌜ r ≡ header kind sealed ⌝ }
 {
     [
-        frame::MARK,
+        framing::MARK,
         kind,
         (sealed % 256) as u8,
         (sealed / 256) as u8,

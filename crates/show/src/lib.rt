@@ -1,6 +1,6 @@
 // The lines of a log's report: numbers, positions and text as people read them. Nothing that a frame
 // holds can act on a terminal or be taken for an escape. Assumes nothing.
-use frame::position::Position;
+use framing::position::Position;
 ghost use mathlib.Core.Path.{_≡_};
 ghost use mathlib.Core.List.{[], _∷_};
 ghost use Prim.Native.Nat.{_+_, _*_, _%_, _^_, _≤_, _<_};

@@ -10,14 +10,14 @@ use lib.Dec.{eqb}
 use lib.ListN.{length, take, drop, length-append, length-drop}
 use lib.Seq.{take-append-le, drop-append-le, length-take-le, take-add}
 use Rattle.answer.specs.Answers.{cutShort}
-use Rattle.frame.specs.declared.Front.the-variants.{Whole, Stop}
-use Rattle.frame.specs.Kinds.{maxFramePlaintext}
-use Rattle.frame.specs.Front.{frontOf}
-use Rattle.frame.specs.Scan.{Scan, none, ahead, scanOf}
-use Rattle.frame.proofs.Fronts.{no-mark}
-use Rattle.frame.proofs.Whole.{IsWhole, whole-is, whole-bounds, whole-before, whole-alone}
-use Rattle.frame.proofs.Scans.{scan-end, scan-stop, scan-whole}
-use Rattle.frame.proofs.Longest.{Frames, joined}
+use Rattle.framing.specs.declared.Front.the-variants.{Whole, Stop}
+use Rattle.framing.specs.Kinds.{maxFramePlaintext}
+use Rattle.framing.specs.Front.{frontOf}
+use Rattle.framing.specs.Scan.{Scan, none, ahead, scanOf}
+use Rattle.framing.proofs.Fronts.{no-mark}
+use Rattle.framing.proofs.Whole.{IsWhole, whole-is, whole-bounds, whole-before, whole-alone}
+use Rattle.framing.proofs.Scans.{scan-end, scan-stop, scan-whole}
+use Rattle.framing.proofs.Longest.{Frames, joined}
 use Rattle.window.specs.declared.Step.{Step}
 use Rattle.window.specs.declared.Step.the-variants.{Frame, More, End}
 use Rattle.window.specs.Step.{stepOf}

@@ -1,7 +1,7 @@
 -- `message::content_refusal` meets its contract. Assumes nothing.
 use mathlib.Core.Path.{_∙_, sym, ap}
 use borrow.Author.Needs.{needs}
-use Rattle.frame.specs.Position.{inRange}
+use Rattle.framing.specs.Position.{inRange}
 use Rattle.message.proofs.Content.{sixteen-bytes, nothing-to-ask, within-range, out-of-range}
 use Rattle.message.proofs.content_refusal.Statement.{statement}
 use Rattle.message.proofs.content_refusal.Tie as tie

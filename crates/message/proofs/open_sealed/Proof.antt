@@ -6,7 +6,7 @@ use borrow.Author.Needs.{needs}
 use lib.ListN.{take, drop}
 use lib.Seq.{length-take-le}
 use Rattle.sealing.specs.Siv.{Opens}
-use Rattle.frame.specs.Front.{sealedLen}
+use Rattle.framing.specs.Front.{sealedLen}
 use Rattle.message.specs.Parts.{adIn, nonceIn}
 use Rattle.message.proofs.open_sealed.Statement.{statement}
 use Rattle.message.proofs.open_sealed.Tie as tie

@@ -4,7 +4,7 @@ use native.Mathlib.Omega.{arith}
 use borrow.Author.Needs.{needs}
 use lib.ListN.{replicate}
 use Rattle.octets.proofs.Copies.{copied-fills}
-use Rattle.frame.specs.Position.{positionOf}
+use Rattle.framing.specs.Position.{positionOf}
 use Rattle.message.proofs.position_in.Statement.{statement}
 use Rattle.message.proofs.position_in.Tie as tie
 

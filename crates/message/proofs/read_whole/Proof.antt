@@ -6,8 +6,8 @@ use native.Mathlib.Omega.{arith}
 use borrow.Author.Needs.{needs}
 use lib.ListN.{length, take, drop, length-append}
 use lib.Seq.{length-take-le, take-at}
-use Rattle.frame.specs.Kinds.{isAllowed}
-use Rattle.frame.proofs.Whole.{is-whole}
+use Rattle.framing.specs.Kinds.{isAllowed}
+use Rattle.framing.proofs.Whole.{is-whole}
 use Rattle.message.specs.Parts.{openedIn}
 use Rattle.message.proofs.Reading.{least, text-length, may-stand, no-room, refused-opening, aside-answer, aside-text, delivered}
 use Rattle.message.proofs.read_whole.Statement.{statement}

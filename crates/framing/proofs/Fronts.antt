@@ -9,9 +9,9 @@ use lib.Dec.{eqb}
 use lib.ListN.{length, getD}
 use Rattle.answer.specs.Answers.{done, notAFrame, unknownKind, lengthForKind, cutShort}
 use Rattle.answer.proofs.First.{Between, between}
-use Rattle.frame.specs.declared.Front.the-variants.{Whole, Stop}
-use Rattle.frame.specs.Kinds.{isKnown, isAllowed}
-use Rattle.frame.specs.Front.{mark, kindOf, sealedLen, takenOf, checks, stopOf, frontOf}
+use Rattle.framing.specs.declared.Front.the-variants.{Whole, Stop}
+use Rattle.framing.specs.Kinds.{isKnown, isAllowed}
+use Rattle.framing.specs.Front.{mark, kindOf, sealedLen, takenOf, checks, stopOf, frontOf}
 
 -- a reason is what stands at the front
 stopped : (s : List ℕ) (r : ℕ) → stopOf s ≡ r → 0 < r → Stop r ≡ frontOf s

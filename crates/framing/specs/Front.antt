@@ -7,9 +7,9 @@ use lib.ListN.{length, getD}
 use lib.Dec.{eqb, ltb}
 use Rattle.answer.specs.Answers.{done, notAFrame, unknownKind, lengthForKind, cutShort}
 use Rattle.answer.specs.First.{Refusal, _⇒_, first}
-use Rattle.frame.specs.declared.Front.{Front}
-use Rattle.frame.specs.declared.Front.the-variants.{Whole, Stop}
-use Rattle.frame.specs.Kinds.{isKnown, isAllowed}
+use Rattle.framing.specs.declared.Front.{Front}
+use Rattle.framing.specs.declared.Front.the-variants.{Whole, Stop}
+use Rattle.framing.specs.Kinds.{isKnown, isAllowed}
 
 -- byte 0
 abbrev pub mark : ℕ

@@ -8,14 +8,14 @@ use native.Mathlib.Omega.{arith}
 use native.Mathlib.Nat.{add-assoc, add-zero, zero-add}
 use lib.ListN.{length, take, drop, length-append, length-drop, take-append-drop}
 use lib.Seq.{length-take-le, drop-append-seam, take-add, drop-drop}
-use Rattle.frame.specs.declared.Front.{Front}
-use Rattle.frame.specs.declared.Front.the-variants.{Whole, Stop}
-use Rattle.frame.specs.Front.{frontOf}
-use Rattle.frame.specs.Scan.{Scan, none, ahead, scanOf}
+use Rattle.framing.specs.declared.Front.{Front}
+use Rattle.framing.specs.declared.Front.the-variants.{Whole, Stop}
+use Rattle.framing.specs.Front.{frontOf}
+use Rattle.framing.specs.Scan.{Scan, none, ahead, scanOf}
 use Rattle.answer.specs.Answers.{notAFrame, cutShort}
-use Rattle.frame.proofs.Fronts.{reason}
-use Rattle.frame.proofs.Whole.{is-whole, whole-is, whole-bounds, whole-before, whole-alone}
-use Rattle.frame.proofs.Scans.{scan-end, scan-stop, scan-whole}
+use Rattle.framing.proofs.Fronts.{reason}
+use Rattle.framing.proofs.Whole.{is-whole, whole-is, whole-bounds, whole-before, whole-alone}
+use Rattle.framing.proofs.Scans.{scan-end, scan-stop, scan-whole}
 
 -- a whole frame, and nothing behind it
 pub record IsFrame (f : List ℕ) : Type 0 where

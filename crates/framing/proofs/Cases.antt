@@ -8,12 +8,12 @@ use lib.IntN.{pos, negℤ}
 use lib.ListN.{length, replicate}
 use Rattle.octets.specs.Numbers.{number, bytesOf}
 use Rattle.answer.specs.Answers.{lengthForKind, cutShort}
-use Rattle.frame.specs.declared.Front.the-variants.{Whole, Stop}
-use Rattle.frame.specs.Position.{inRange, positionOf, positionBytes}
-use Rattle.frame.specs.Kinds.{position, text, checkIn}
-use Rattle.frame.specs.Front.{mark, checks, frontOf}
-use Rattle.frame.specs.Scan.{none, scanFrom, scanOf}
-use Rattle.frame.proofs.Fronts.{wrong-length, no-end, whole}
+use Rattle.framing.specs.declared.Front.the-variants.{Whole, Stop}
+use Rattle.framing.specs.Position.{inRange, positionOf, positionBytes}
+use Rattle.framing.specs.Kinds.{position, text, checkIn}
+use Rattle.framing.specs.Front.{mark, checks, frontOf}
+use Rattle.framing.specs.Scan.{none, scanFrom, scanOf}
+use Rattle.framing.proofs.Fronts.{wrong-length, no-end, whole}
 
 -- a position frame has 48 bytes: with 44 behind its length it is whole, with 43 it is cut
 pub position-48 : (rest : List ℕ) → length rest ≡ 44 → frontOf (mark ∷ position ∷ 32 ∷ 0 ∷ rest) ≡ Whole position 48

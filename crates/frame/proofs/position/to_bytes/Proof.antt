@@ -1,4 +1,4 @@
--- `frame::position::Position::to_bytes` meets its contract. Assumes nothing.
+-- `frame::position::to_bytes` meets its contract. Assumes nothing.
 use mir.Facts.{toZ-ofZ}
 use mir.Syntax.{w32}
 use mathlib.Core.Path.{ap, _∙_}
@@ -7,10 +7,10 @@ use Prim.Native.Nat.{ℕ}
 use borrow.Author.Needs.{needs}
 use Rattle.octets.specs.Numbers.{bytesOf}
 use Rattle.octets.proofs.Numbers.{cells}
-use Rattle.frame.specs.Signed.{bitsOf}
-use Rattle.frame.specs.Position.{positionBytes}
-use Rattle.frame.proofs.position.Position.to_bytes.Statement.{statement}
-use Rattle.frame.proofs.position.Position.to_bytes.Tie as tie
+use Rattle.framing.specs.Signed.{bitsOf}
+use Rattle.framing.specs.Position.{positionBytes}
+use Rattle.frame.proofs.position.to_bytes.Statement.{statement}
+use Rattle.frame.proofs.position.to_bytes.Tie as tie
 
 -- the sixteen bytes as the code takes them out of the four words
 abbrev sixteen : (a o h t : List ℕ) → List ℕ
@@ -20,7 +20,7 @@ returns : tie.Need-returns
 unfolding positionBytes bytesOf
 returns c =
     let start = c .before .before .before .before .before .before .before .before .before .before in
-    let p = start .args .self in
+    let p = start .args .p in
     let a = c .before .before .before .before .before .before .before in
     let o = c .before .before .before .before in
     let h = c .before in

@@ -1,4 +1,4 @@
--- `frame::position::Position::from_bytes` meets its contract. Assumes nothing.
+-- `frame::position::from_bytes` meets its contract. Assumes nothing.
 use mir.Facts.{toZ-ofZ}
 use mir.Syntax.{w32}
 use mathlib.Core.Path.{_≡_, ap, _∙_}
@@ -7,10 +7,10 @@ use native.Mathlib.Omega.{arith}
 use borrow.Author.Needs.{needs}
 use Rattle.octets.specs.Numbers.{number}
 use Rattle.octets.proofs.Numbers.{cells, cells-part}
-use Rattle.frame.specs.Signed.{signed}
-use Rattle.frame.specs.Position.{positionOf, wordAt}
-use Rattle.frame.proofs.position.Position.from_bytes.Statement.{statement}
-use Rattle.frame.proofs.position.Position.from_bytes.Tie as tie
+use Rattle.framing.specs.Signed.{signed}
+use Rattle.framing.specs.Position.{positionOf, wordAt}
+use Rattle.frame.proofs.position.from_bytes.Statement.{statement}
+use Rattle.frame.proofs.position.from_bytes.Tie as tie
 
 returns : tie.Need-returns
 unfolding positionOf

@@ -6,8 +6,8 @@ use lib.IntN.{ℤ, pos, negℤ}
 use lib.Signed.{leZ}
 use lib.ListN.{take, drop}
 use Rattle.octets.specs.Numbers.{number, bytesOf}
-use Rattle.frame.specs.declared.position.Position.{Position}
-use Rattle.frame.specs.Signed.{signed, bitsOf}
+use Rattle.framing.specs.declared.position.Position.{Position}
+use Rattle.framing.specs.Signed.{signed, bitsOf}
 
 -- the ranges, both ends included: latitude and longitude in 10^-7 degree, altitude in cm
 abbrev pub latMin : ℤ

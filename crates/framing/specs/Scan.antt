@@ -6,9 +6,9 @@ use mathlib.Core.List.{List}
 use mathlib.Core.Bool.{cond}
 use lib.ListN.{length, take, drop}
 use lib.Dec.{eqb}
-use Rattle.frame.specs.declared.Front.{Front}
-use Rattle.frame.specs.declared.Front.the-variants.{Whole, Stop}
-use Rattle.frame.specs.Front.{frontOf}
+use Rattle.framing.specs.declared.Front.{Front}
+use Rattle.framing.specs.declared.Front.the-variants.{Whole, Stop}
+use Rattle.framing.specs.Front.{frontOf}
 
 -- how many bytes the whole frames at the front take, how many they are, and why there is no next one (0 at the exact end)
 pub record Scan : Type 0 where

@@ -8,12 +8,12 @@ use native.Mathlib.Nat.{add-zero}
 use lib.ListN.{length, take}
 use lib.Seq.{length-take-le}
 use Rattle.answer.specs.Answers.{cutShort}
-use Rattle.frame.specs.declared.Front.the-variants.{Stop}
-use Rattle.frame.specs.Front.{frontOf}
-use Rattle.frame.specs.Scan.{none, ahead, scanOf}
-use Rattle.frame.proofs.Whole.{is-whole, cut-frame}
-use Rattle.frame.proofs.Scans.{scan-stop}
-use Rattle.frame.proofs.Longest.{IsFrame, Frames, joined, scan-joined}
+use Rattle.framing.specs.declared.Front.the-variants.{Stop}
+use Rattle.framing.specs.Front.{frontOf}
+use Rattle.framing.specs.Scan.{none, ahead, scanOf}
+use Rattle.framing.proofs.Whole.{is-whole, cut-frame}
+use Rattle.framing.proofs.Scans.{scan-stop}
+use Rattle.framing.proofs.Longest.{IsFrame, Frames, joined, scan-joined}
 
 module _ (f : List ℕ) (w : IsFrame f) (n : ℕ) (h : n < length f) where
   -- every proper prefix of a whole frame is cut short

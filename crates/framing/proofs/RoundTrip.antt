@@ -11,10 +11,10 @@ use mir.Syntax.{w32}
 use mir.Val.{SFits}
 use Rattle.octets.specs.Numbers.{number, bytesOf}
 use Rattle.octets.proofs.Numbers.{Bytes, bytes-take, bytes-drop, number-lt, number-bytesOf, bytesOf-number}
-use Rattle.frame.specs.declared.position.Position.{Position}
-use Rattle.frame.specs.Signed.{signed, bitsOf}
-use Rattle.frame.specs.Position.{wordAt, positionOf, positionBytes}
-use Rattle.frame.proofs.Signs.{signed-bits, bits-signed, bits-lt}
+use Rattle.framing.specs.declared.position.Position.{Position}
+use Rattle.framing.specs.Signed.{signed, bitsOf}
+use Rattle.framing.specs.Position.{wordAt, positionOf, positionBytes}
+use Rattle.framing.proofs.Complement.{signed-bits, bits-signed, bits-lt}
 
 -- what the types of the four fields say: three are signed numbers of 32 bits, one is unsigned
 pub record Fits (p : Position) : Type 0 where

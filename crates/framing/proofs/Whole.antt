@@ -11,10 +11,10 @@ use lib.ListN.{length, getD, take, length-append, List·getD-append}
 use lib.Seq.{length-take-le, getD-take}
 use Rattle.answer.specs.Answers.{done, cutShort}
 use Rattle.answer.proofs.First.{Passed, Told, all-passed}
-use Rattle.frame.specs.declared.Front.the-variants.{Whole, Stop}
-use Rattle.frame.specs.Kinds.{position, text, checkIn, isKnown, isAllowed, maxFramePlaintext}
-use Rattle.frame.specs.Front.{mark, kindOf, sealedLen, takenOf, checks, stopOf, frontOf}
-use Rattle.frame.proofs.Fronts.{no-mark, no-kind, no-length, no-end, whole}
+use Rattle.framing.specs.declared.Front.the-variants.{Whole, Stop}
+use Rattle.framing.specs.Kinds.{position, text, checkIn, isKnown, isAllowed, maxFramePlaintext}
+use Rattle.framing.specs.Front.{mark, kindOf, sealedLen, takenOf, checks, stopOf, frontOf}
+use Rattle.framing.proofs.Fronts.{no-mark, no-kind, no-length, no-end, whole}
 
 -- what a whole frame's bytes say
 pub record IsWhole (s : List ℕ) (kind taken : ℕ) : Type 0 where
