@@ -6,7 +6,7 @@ use files::Got;
 use framing::position::Position;
 use libc::STDERR_FILENO;
 use libc::STDOUT_FILENO;
-use message::Message;
+use messaging::Message;
 use window::Step;
 ghost use mathlib.Core.Path.{_≡_};
 ghost use mathlib.Core.Bool.{true};

@@ -23,9 +23,9 @@ pub record IsFrame (f : List ℕ) : Type 0 where
   pub whole : frontOf f ≡ Whole kind (length f)
 
 -- each of them is a whole frame
-abbrev pub Frames : List (List ℕ) → Type 0
-Frames [] = Unit {0}
-Frames (f ∷ fs) = IsFrame f × Frames fs
+abbrev pub AllFrames : List (List ℕ) → Type 0
+AllFrames [] = Unit {0}
+AllFrames (f ∷ fs) = IsFrame f × AllFrames fs
 
 -- one after the other
 abbrev pub joined : List (List ℕ) → List ℕ
@@ -36,7 +36,7 @@ ahead-ahead : (t k u m : ℕ) (r : Scan) → ahead t k (ahead u m r) ≡ ahead (
 ahead-ahead t k u m r = simp (← add-assoc)
 
 -- whole frames at the front of a log are scanned, every one, and then what follows them
-pub scan-joined : (fs : List (List ℕ)) (rest : List ℕ) → Frames fs → scanOf (joined fs ++ rest) ≡ ahead (length (joined fs)) (length fs) (scanOf rest)
+pub scan-joined : (fs : List (List ℕ)) (rest : List ℕ) → AllFrames fs → scanOf (joined fs ++ rest) ≡ ahead (length (joined fs)) (length fs) (scanOf rest)
 scan-joined [] rest w = simp zero-add
 scan-joined (f ∷ fs) rest (w, ws) =
     let first : frontOf (f ++ (joined fs ++ rest)) ≡ Whole (w .kind) (length f) = whole-is _ _ _ (whole-before f (joined fs ++ rest) (w .kind) (length f) (is-whole _ _ _ (w .whole))) in
@@ -48,13 +48,13 @@ scan-joined (f ∷ fs) rest (w, ws) =
     ∙ ap₂ (λ t k. ahead t k (scanOf rest)) (sym (length-append f (joined fs))) (omega arith)
 
 -- a log that is whole frames and nothing else: all its bytes, as many frames, stop 0
-pub all-frames : (fs : List (List ℕ)) → Frames fs → scanOf (joined fs) ≡ record { taken = length (joined fs); frames = length fs; stop = 0 }
+pub all-frames : (fs : List (List ℕ)) → AllFrames fs → scanOf (joined fs) ≡ record { taken = length (joined fs); frames = length fs; stop = 0 }
 all-frames fs w =
     ap scanOf (sym (append-nil (joined fs))) ∙ scan-joined fs [] w ∙ ap (ahead (length (joined fs)) (length fs)) (scan-end [] refl)
     ∙ simp add-zero
 
 -- no longer prefix is made of whole frames
-pub longest : (log : List ℕ) (n : ℕ) (fs : List (List ℕ)) → n ≤ length log → Frames fs → joined fs ≡ take n log → n ≤ scanOf log .taken
+pub longest : (log : List ℕ) (n : ℕ) (fs : List (List ℕ)) → n ≤ length log → AllFrames fs → joined fs ≡ take n log → n ≤ scanOf log .taken
 longest log n fs h w e =
     let split : joined fs ++ drop n log ≡ log = ap (λ s. s ++ drop n log) e ∙ take-append-drop n log in
     let long : length (joined fs) ≡ n = ap length e ∙ length-take-le n log h in
@@ -68,7 +68,7 @@ Stops rest stop = ((rest ≡ []) × (stop ≡ 0)) ⊎ ((0 < length rest) × (fro
 -- what is handed back is whole frames, as many as are counted, and what follows it is why there is no more
 pub record Found (log : List ℕ) (r : Scan) : Type 0 where
   pub parts : List (List ℕ)
-  pub whole : Frames parts
+  pub whole : AllFrames parts
   pub prefix : joined parts ≡ take (r .taken) log
   pub count : length parts ≡ r .frames
   pub inside : r .taken ≤ length log

@@ -13,7 +13,7 @@ use Rattle.framing.specs.Front.{frontOf}
 use Rattle.framing.specs.Scan.{none, ahead, scanOf}
 use Rattle.framing.proofs.Whole.{is-whole, cut-frame}
 use Rattle.framing.proofs.Scans.{scan-stop}
-use Rattle.framing.proofs.Longest.{IsFrame, Frames, joined, scan-joined}
+use Rattle.framing.proofs.Longest.{IsFrame, AllFrames, joined, scan-joined}
 
 module _ (f : List ℕ) (w : IsFrame f) (n : ℕ) (h : n < length f) where
   -- every proper prefix of a whole frame is cut short
@@ -25,5 +25,5 @@ module _ (f : List ℕ) (w : IsFrame f) (n : ℕ) (h : n < length f) where
   cut-scans-none p = scan-stop (take n f) (rw (length-take-le n f (omega arith)) p) cutShort cut-is-12
 
   -- and behind whole frames it leaves them and their count as they are
-  pub cut-behind-frames : (fs : List (List ℕ)) → Frames fs → 0 < n → scanOf (joined fs ++ take n f) ≡ record { taken = length (joined fs); frames = length fs; stop = cutShort }
+  pub cut-behind-frames : (fs : List (List ℕ)) → AllFrames fs → 0 < n → scanOf (joined fs ++ take n f) ≡ record { taken = length (joined fs); frames = length fs; stop = cutShort }
   cut-behind-frames fs ws p = scan-joined fs (take n f) ws ∙ ap (ahead (length (joined fs)) (length fs)) (cut-scans-none p) ∙ simp add-zero

@@ -13,7 +13,7 @@ use Rattle.octets.specs.Numbers.{number, bytesOf}
 use Rattle.octets.proofs.Numbers.{Bytes, bytes-take, bytes-drop, number-lt, number-bytesOf, bytesOf-number}
 use Rattle.framing.specs.declared.position.Position.{Position}
 use Rattle.framing.specs.Signed.{signed, bitsOf}
-use Rattle.framing.specs.Position.{wordAt, positionOf, positionBytes}
+use Rattle.framing.specs.Position.{fieldAt, positionOf, positionBytes}
 use Rattle.framing.proofs.Complement.{signed-bits, bits-signed, bits-lt}
 
 -- what the types of the four fields say: three are signed numbers of 32 bits, one is unsigned
@@ -45,14 +45,14 @@ module _ (b : List ℕ) (bytes : Bytes b) (long : length b ≡ 16) where
     four : length (take 4 (drop i b)) ≡ 4
     four = length-take-le 4 (drop i b) (rw length-drop (omega arith))
 
-    pub word-lt : wordAt i b < 2 ^ 32
+    pub word-lt : fieldAt i b < 2 ^ 32
     word-lt = rw four at (number-lt (take 4 (drop i b)) (bytes-take 4 (drop i b) (bytes-drop i b bytes)))
 
-    back : bytesOf 4 (wordAt i b) ≡ take 4 (drop i b)
-    back = ap (λ n. bytesOf n (wordAt i b)) (sym four) ∙ bytesOf-number (take 4 (drop i b)) (bytes-take 4 (drop i b) (bytes-drop i b bytes))
+    back : bytesOf 4 (fieldAt i b) ≡ take 4 (drop i b)
+    back = ap (λ n. bytesOf n (fieldAt i b)) (sym four) ∙ bytesOf-number (take 4 (drop i b)) (bytes-take 4 (drop i b) (bytes-drop i b bytes))
 
-    signed-back : bytesOf 4 (bitsOf (signed (wordAt i b))) ≡ take 4 (drop i b)
-    signed-back = ap (bytesOf 4) (bits-signed (wordAt i b) word-lt) ∙ back
+    signed-back : bytesOf 4 (bitsOf (signed (fieldAt i b))) ≡ take 4 (drop i b)
+    signed-back = ap (bytesOf 4) (bits-signed (fieldAt i b) word-lt) ∙ back
 
   -- sixteen bytes are the bytes of the position that they spell
   pub bytes-position : positionBytes (positionOf b) ≡ b

@@ -3,17 +3,18 @@
 use Prim.Native.Nat.{ℕ, _+_, _*_, _≤_, _<_}
 use mathlib.Core.Path.{_≡_, refl, sym, ap, ap₂, _∙_}
 use mathlib.Core.List.{List, _++_}
-use mathlib.Core.Bool.{Bool, true, false, cond, _&&_}
+use mathlib.Core.Bool.{Bool, true, false, cond}
 use native.Mathlib.Omega.{arith}
-use borrow.Author.Tests.{ltb-true, ltb-false, leb-true, eqb-true, not-false}
-use lib.Dec.{eqb, leb, ltb}
+use borrow.Author.Tests.{ltb-true, ltb-false, eqb-true, not-false}
+use lib.Dec.{eqb, ltb}
 use lib.ListN.{length, getD, take, length-append, List·getD-append}
 use lib.Seq.{length-take-le, getD-take}
 use Rattle.answer.specs.Answers.{done, cutShort}
 use Rattle.answer.proofs.First.{Passed, Told, all-passed}
 use Rattle.framing.specs.declared.Front.the-variants.{Whole, Stop}
-use Rattle.framing.specs.Kinds.{position, text, checkIn, isKnown, isAllowed, maxFramePlaintext}
+use Rattle.framing.specs.Kinds.{isKnown, isAllowed, maxFramePlaintext}
 use Rattle.framing.specs.Front.{mark, kindOf, sealedLen, takenOf, checks, stopOf, frontOf}
+use Rattle.framing.proofs.Rows.{allowed-bounds}
 use Rattle.framing.proofs.Fronts.{no-mark, no-kind, no-length, no-end, whole}
 
 -- what a whole frame's bytes say
@@ -63,23 +64,6 @@ whole-is s kind taken w =
     let l : 4 ≤ length s = omega arith in
     sym (whole s (omega arith) (w .marked) (omega arith) (ap isKnown (w .kind-is) ∙ w .known) l (ap (λ k. isAllowed k (sealedLen s)) (w .kind-is) ∙ w .allowed) (omega arith))
     ∙ ap₂ Whole (w .kind-is) t
-
--- the table's sealed lengths hold a tag, and none is longer than the longest text's
-both : (a b : Bool) → (a && b) ≡ true → (a ≡ true) × (b ≡ true)
-both true b e = (refl, e)
-both false b e = absurd (let z : _≡_ {A = ℕ} 0 1 = cc in omega arith)
-
-pub allowed-bounds : (kind n : ℕ) → isAllowed kind n ≡ true → (16 ≤ n) × (n ≤ 16 + maxFramePlaintext)
-allowed-bounds kind n = by (eqb kind position) (eqb kind text)
-  where
-    by : (a b : Bool) → cond a (eqb n 32) (cond b (leb 17 n && leb n 176) (eqb kind checkIn && eqb n 16)) ≡ true → (16 ≤ n) × (n ≤ 16 + maxFramePlaintext)
-    by true b e = let h = eqb-true n 32 e in (omega arith, omega arith)
-    by false true e =
-        let h = both (leb 17 n) (leb n 176) e in
-        let lo = leb-true 17 n (h .0) in
-        let hi = leb-true n 176 (h .1) in
-        (omega arith, omega arith)
-    by false false e = let h = eqb-true n 16 (both (eqb kind checkIn) (eqb n 16) e .1) in (omega arith, omega arith)
 
 -- a whole frame has 32 bytes or more
 pub whole-bounds : (s : List ℕ) (kind taken : ℕ) → IsWhole s kind taken → (32 ≤ taken) × (taken ≤ 32 + maxFramePlaintext)

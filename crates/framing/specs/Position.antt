@@ -36,12 +36,12 @@ abbrev pub inRange : Position → Bool
 inRange p = within latMin latMax (p .lat) && (within lonMin lonMax (p .lon) && within altMin altMax (p .alt))
 
 -- the word in the four bytes from place i on
-abbrev pub wordAt : ℕ → List ℕ → ℕ
-wordAt i b = number (take 4 (drop i b))
+abbrev pub fieldAt : ℕ → List ℕ → ℕ
+fieldAt i b = number (take 4 (drop i b))
 
 -- the fields that sixteen bytes spell: latitude, longitude, altitude, time
 unfoldable pub positionOf : List ℕ → Position
-positionOf b = record { lat = signed (wordAt 0 b); lon = signed (wordAt 4 b); alt = signed (wordAt 8 b); time = wordAt 12 b }
+positionOf b = record { lat = signed (fieldAt 0 b); lon = signed (fieldAt 4 b); alt = signed (fieldAt 8 b); time = fieldAt 12 b }
 
 -- the sixteen bytes that spell the fields
 unfoldable pub positionBytes : Position → List ℕ

@@ -18,7 +18,7 @@ use Rattle.hash.specs.Calls.{recordAnswer, resetOf}
 use Rattle.join.specs.declared.Joined.{Joined}
 use Rattle.framing.specs.declared.position.Position.{Position}
 use Rattle.ghash.specs.declared.parts.Started.{Started}
-use Rattle.message.specs.Message.{Values}
+use Rattle.messaging.specs.Message.{Values}
 use Rattle.octets.specs.Places.{Puts}
 use Rattle.octets.proofs.Places.{then, put-wrote}
 use Rattle.record.specs.Bytes.{recordBytes}

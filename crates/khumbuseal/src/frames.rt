@@ -2,16 +2,16 @@
 use framing::Front;
 use framing::kind;
 use framing::position::Position;
-use message::Message;
+use messaging::Message;
 ghost use mathlib.Core.Path.{_≡_};
 ghost use lib.IntN.{pos};
 ghost use lib.ListN.{length};
 ghost use Rattle.framing.specs.Front.{frontOf};
 ghost use Rattle.framing.specs.Position.{positionOf, positionBytes, inRange};
 ghost use Rattle.framing.specs.Scan.{scanOf};
-ghost use Rattle.message.specs.Message.{valuesOf};
-ghost use Rattle.message.specs.Write.{Writes};
-ghost use Rattle.message.specs.Read.{readOf, readOut};
+ghost use Rattle.messaging.specs.Message.{valuesOf};
+ghost use Rattle.messaging.specs.Write.{Writes};
+ghost use Rattle.messaging.specs.Read.{readOf, readOut};
 ghost use Rattle.khumbuseal.specs.Cells.{yesOrNo};
 ghost use Rattle.khumbuseal.specs.Frames.{frontCells, messageCells};
 

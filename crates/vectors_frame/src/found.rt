@@ -4,7 +4,7 @@ use crate::written::KEY;
 use crate::written::marked;
 use framing::Front;
 use framing::position::Position;
-use message::Message;
+use messaging::Message;
 ghost use Prim.Native.Nat.{_-_, _≤_};
 ghost use lib.ListN.{length};
 

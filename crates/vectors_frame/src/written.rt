@@ -2,7 +2,7 @@
 use crate::said;
 use framing::kind;
 use framing::position::Position;
-use message::Written;
+use messaging::Written;
 ghost use Prim.Native.Nat.{_≤_};
 ghost use lib.ListN.{length};
 ghost use mathlib.Core.Path.{_≡_};

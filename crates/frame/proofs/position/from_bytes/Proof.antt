@@ -8,7 +8,7 @@ use borrow.Author.Needs.{needs}
 use Rattle.octets.specs.Numbers.{number}
 use Rattle.octets.proofs.Numbers.{cells, cells-part}
 use Rattle.framing.specs.Signed.{signed}
-use Rattle.framing.specs.Position.{positionOf, wordAt}
+use Rattle.framing.specs.Position.{positionOf, fieldAt}
 use Rattle.frame.proofs.position.from_bytes.Statement.{statement}
 use Rattle.frame.proofs.position.from_bytes.Tie as tie
 
@@ -16,7 +16,7 @@ returns : tie.Need-returns
 unfolding positionOf
 returns c =
     let b = c .before .before .before .before .args .t1 in
-    let word : (i : ℕ) → i + 4 ≤ 16 → number (cells i 4 b) ≡ wordAt i b = λ i h. ap number (cells-part i 4 b (omega arith)) in
+    let word : (i : ℕ) → i + 4 ≤ 16 → number (cells i 4 b) ≡ fieldAt i b = λ i h. ap number (cells-part i 4 b (omega arith)) in
     (λ i. record {
       lat = (toZ-ofZ {w = w32} {z = c .before .before .before .field .result} (search needs) ∙ c .before .before .before .field .ensures ∙ ap signed (word 0 (omega arith))) i;
       lon = (toZ-ofZ {w = w32} {z = c .before .before .field2 .result} (search needs) ∙ c .before .before .field2 .ensures ∙ ap signed (word 4 (omega arith))) i;
