@@ -8,15 +8,15 @@ use lib.Dec.{eqb}
 use lib.IntN.{ℤ}
 use lib.ListN.{length}
 use Rattle.answer.specs.Answers.{done}
-use Rattle.frame.specs.declared.Front.the-variants.{Whole}
-use Rattle.frame.specs.Position.{positionOf}
-use Rattle.frame.specs.Kinds as kinds
-use Rattle.frame.specs.Kinds.{maxFramePlaintext}
-use Rattle.frame.specs.Front.{kindOf, takenOf, frontOf}
-use Rattle.message.specs.declared.Message.the-variants as message
-use Rattle.message.specs.Parts.{openedIn}
-use Rattle.message.specs.Read.{readAnswer, readOf}
-use Rattle.message.proofs.Reading.{least, text-length}
+use Rattle.framing.specs.declared.Front.the-variants.{Whole}
+use Rattle.framing.specs.Position.{positionOf}
+use Rattle.framing.specs.Kinds as kinds
+use Rattle.framing.specs.Kinds.{maxFramePlaintext}
+use Rattle.framing.specs.Front.{kindOf, takenOf, frontOf}
+use Rattle.messaging.specs.declared.Message.the-variants as message
+use Rattle.messaging.specs.Parts.{openedIn}
+use Rattle.messaging.specs.Read.{readAnswer, readOf}
+use Rattle.messaging.proofs.Reading.{least, text-length}
 
 no : {A : Type 0} → _≡_ {A = ℕ} 0 1 → A
 no e = absurd (omega arith)

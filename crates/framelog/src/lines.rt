@@ -1,20 +1,20 @@
 // What is printed of a log: a line for each frame, by what its reading answers, and the last line.
 use answer::DONE;
-use frame::position::Position;
+use framing::position::Position;
 use libc::STDOUT_FILENO;
-use message::Message;
+use messaging::Message;
 ghost use mathlib.Core.Path.{_≡_};
 ghost use lib.ListN.{length};
 ghost use Rattle.io.specs.Counts.{Counts};
-ghost use Rattle.frame.specs.declared.Front.the-variants.{Whole};
+ghost use Rattle.framing.specs.declared.Front.the-variants.{Whole};
 ghost use Rattle.frame.specs.Kinds.{maxFramePlaintext};
-ghost use Rattle.frame.specs.Front.{frontOf};
+ghost use Rattle.framing.specs.Front.{frontOf};
 
 // Room for the plaintext of any frame.
-fn scratch() -> [u8; frame::kind::MAX_PLAINTEXT]
+fn scratch() -> [u8; framing::kind::MAX_PLAINTEXT]
     ensures { λ r. ⌜ maxFramePlaintext ≡ length r ⌝ }
 {
-    [0; frame::kind::MAX_PLAINTEXT]
+    [0; framing::kind::MAX_PLAINTEXT]
 }
 
 // The line of a frame that was refused, with what its answer means.

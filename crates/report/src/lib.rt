@@ -12,7 +12,7 @@ use crate::pieces::put_height;
 use crate::pieces::put_stop;
 use crate::words::put;
 use crate::words::put_word;
-use frame::position::Position;
+use framing::position::Position;
 ghost use mathlib.Core.Path.{_≡_};
 ghost use mathlib.Core.List.{_++_};
 ghost use Prim.Native.Nat.{_+_, _*_, _≤_, _<_};

@@ -3,7 +3,7 @@ use crate::print::Said;
 use crate::requests;
 use crate::words;
 use aead::cipher::Cipher;
-use message::Message;
+use messaging::Message;
 
 // What each byte of an output buffer is before a call.
 const UNTOUCHED: u8 = 0xa5;

@@ -2,9 +2,9 @@
 use crate::said;
 use crate::written::KEY;
 use crate::written::marked;
-use frame::Front;
-use frame::position::Position;
-use message::Message;
+use framing::Front;
+use framing::position::Position;
+use messaging::Message;
 ghost use Prim.Native.Nat.{_-_, _≤_};
 ghost use lib.ListN.{length};
 
@@ -25,7 +25,7 @@ fn tell(m: Message) {
                 time,
             };
             said::word(b"position");
-            said::hex(&p.to_bytes());
+            said::hex(&frame::position::to_bytes(p));
             said::length(taken);
         }
         Message::Text { len, taken } => {

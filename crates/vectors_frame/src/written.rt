@@ -1,8 +1,8 @@
 // What writing answers, and what it leaves in an output of 64 bytes that bears a mark in each.
 use crate::said;
-use frame::kind;
-use frame::position::Position;
-use message::Written;
+use framing::kind;
+use framing::position::Position;
+use messaging::Written;
 ghost use Prim.Native.Nat.{_≤_};
 ghost use lib.ListN.{length};
 ghost use mathlib.Core.Path.{_≡_};
@@ -49,8 +49,20 @@ fn whole() {
         alt: -50_000,
         time: 4_294_967_295,
     };
-    write(kind::POSITION, &KEY, &[1; 12], &everest.to_bytes(), 64);
-    write(kind::POSITION, &KEY, &[2; 12], &lowest.to_bytes(), 48);
+    write(
+        kind::POSITION,
+        &KEY,
+        &[1; 12],
+        &frame::position::to_bytes(everest),
+        64,
+    );
+    write(
+        kind::POSITION,
+        &KEY,
+        &[2; 12],
+        &frame::position::to_bytes(lowest),
+        48,
+    );
     write(kind::TEXT, &KEY, &[3; 12], b"hello", 64);
     write(kind::CHECK_IN, &KEY, &[4; 12], b"", 32);
     write(kind::CHECK_IN, &[7; 32], &[5; 12], b"", 64);
@@ -67,7 +79,13 @@ fn refused() {
     write(4, b"", b"", b"", 0);
     write(kind::TEXT, b"", b"", b"", 0);
     write(kind::TEXT, b"", b"", &[0x20; 161], 0);
-    write(kind::POSITION, b"", b"", &too_high.to_bytes(), 0);
+    write(
+        kind::POSITION,
+        b"",
+        b"",
+        &frame::position::to_bytes(too_high),
+        0,
+    );
     write(kind::CHECK_IN, &[0; 15], b"", b"", 0);
     write(kind::CHECK_IN, &KEY, &[6; 11], b"", 0);
     write(kind::CHECK_IN, &KEY, &[6; 12], b"", 31);

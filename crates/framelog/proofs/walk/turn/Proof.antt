@@ -5,7 +5,7 @@ use mathlib.Core.List.{List}
 use native.Mathlib.Omega.{arith}
 use lib.ListN.{length, take, drop, length-drop}
 use lib.Seq.{length-take-le}
-use Rattle.frame.proofs.Whole.{IsWhole, whole-is, whole-bounds}
+use Rattle.framing.proofs.Whole.{IsWhole, whole-is, whole-bounds}
 use Rattle.window.proofs.InPieces.{reported-whole}
 use Rattle.framelog.proofs.Places.{some-left, has-room, after-frame, after-end}
 use borrow.Author.Needs.{needs}

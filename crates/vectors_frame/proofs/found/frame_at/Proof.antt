@@ -5,7 +5,7 @@ use native.Mathlib.Omega.{arith}
 use lib.ListN.{length, drop, length-drop}
 use lib.Seq.{length-take-le}
 use borrow.Author.Needs.{needs}
-use Rattle.frame.proofs.Whole.{is-whole}
+use Rattle.framing.proofs.Whole.{is-whole}
 use Rattle.vectors_frame.proofs.found.frame_at.Statement.{statement}
 use Rattle.vectors_frame.proofs.found.frame_at.Tie as tie
 

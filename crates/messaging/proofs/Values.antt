@@ -1,0 +1,70 @@
+-- The values of a message: those of its kind, and of a refusal its number. Assumes nothing.
+use Prim.Native.Nat.{ℕ}
+use mathlib.Core.Path.{_≡_, refl, sym, ap, _∙_}
+use mathlib.Core.Bool.{Bool, true, false, cond}
+use mathlib.Core.List.{List}
+use native.Mathlib.Omega.{arith}
+use borrow.Author.Tests.{eqb-true, eqb-false}
+use lib.Dec.{eqb}
+use lib.ListN.{length}
+use Rattle.framing.specs.declared.position.Position.{Position}
+use Rattle.framing.specs.Position.{positionOf}
+use Rattle.framing.specs.Kinds as kinds
+use Rattle.framing.specs.Kinds.{table, isKnown}
+use Rattle.framing.proofs.Rows.{each-known}
+use Rattle.messaging.specs.declared.Message.{Message}
+use Rattle.messaging.specs.declared.Message.the-variants as message
+use Rattle.messaging.specs.Message.{contentAnswer, messageOf, valuesOf}
+use Rattle.messaging.specs.Read.{orRefused}
+
+-- a message that is not refused answers 0, and no other does
+pub not-refused : (a : ℕ) (m r : Message) → r ≡ orRefused a m → valuesOf r .answer ≡ 0 → (a ≡ 0) × (r ≡ m)
+not-refused a m r e z = by (eqb a 0) refl e
+  where
+    by : (b : Bool) → eqb a 0 ≡ b → r ≡ cond b m (message.Refused a) → (a ≡ 0) × (r ≡ m)
+    by true q p = (eqb-true a 0 q, p)
+    by false q p = absurd (eqb-false a 0 q (sym (ap (λ x. valuesOf x .answer) p) ∙ z))
+
+refused-value : (a : ℕ) (m : Message) → valuesOf m .answer ≡ 0 → valuesOf (orRefused a m) .answer ≡ a
+refused-value a m e = by (eqb a 0) refl
+  where
+    by : (b : Bool) → eqb a 0 ≡ b → valuesOf (cond b m (message.Refused a)) .answer ≡ a
+    by true q = e ∙ sym (eqb-true a 0 q)
+    by false q = refl
+
+module _ (kind : ℕ) (text : List ℕ) (taken : ℕ) where
+  -- the kind and the bytes taken are among its values
+  pub kind-value : isKnown kind ≡ true → valuesOf (messageOf kind text taken) .kind ≡ kind
+  unfolding table
+  kind-value = each-known (λ (n : ℕ). valuesOf (messageOf n text taken) .kind ≡ n) (refl, (refl, (refl, tt))) kind
+
+  pub taken-value : valuesOf (messageOf kind text taken) .taken ≡ taken
+  taken-value = by (eqb kind kinds.position) (eqb kind kinds.text)
+    where
+      by : (a b : Bool) → valuesOf (cond a (message.Position (positionOf text) taken) (cond b (message.Text (length text) taken) (message.CheckIn taken))) .taken ≡ taken
+      by true b = refl
+      by false true = refl
+      by false false = refl
+
+  -- what a plaintext says is not refused
+  answer-value : valuesOf (messageOf kind text taken) .answer ≡ 0
+  answer-value = by (eqb kind kinds.position) (eqb kind kinds.text)
+    where
+      by : (a b : Bool) → valuesOf (cond a (message.Position (positionOf text) taken) (cond b (message.Text (length text) taken) (message.CheckIn taken))) .answer ≡ 0
+      by true b = refl
+      by false true = refl
+      by false false = refl
+
+  -- so that a message, or the number that refuses its content, has that number
+  pub content-value : valuesOf (orRefused (contentAnswer kind text) (messageOf kind text taken)) .answer ≡ contentAnswer kind text
+  content-value = refused-value (contentAnswer kind text) (messageOf kind text taken) answer-value
+
+  -- a position is the one that its bytes spell
+  pub spelled : (p : Position) (n : ℕ) → messageOf kind text taken ≡ message.Position p n → (kind ≡ kinds.position) × (positionOf text ≡ p)
+  spelled p n = by (eqb kind kinds.position) (eqb kind kinds.text) refl
+    where
+      by : (a b : Bool) → eqb kind kinds.position ≡ a → cond a (message.Position (positionOf text) taken) (cond b (message.Text (length text) taken) (message.CheckIn taken)) ≡ message.Position p n
+          → (kind ≡ kinds.position) × (positionOf text ≡ p)
+      by true b q e = (eqb-true kind kinds.position q, cc)
+      by false true q e = absurd (let z : _≡_ {A = ℕ} 0 1 = cc in omega arith)
+      by false false q e = absurd (let z : _≡_ {A = ℕ} 0 1 = cc in omega arith)
