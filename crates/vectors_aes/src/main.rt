@@ -22,10 +22,10 @@ fn unhex(s: &[u8], out: &mut [u8]) -> bool {
     if s.len() / 2 != out.len() {
         return false;
     }
-    if !lines::is_hex(s) {
+    if !digits::is_hex(s) {
         return false;
     }
-    lines::from_hex(s, out);
+    digits::from_hex(s, out);
     true
 }
 

@@ -61,7 +61,7 @@ fn part<'a>(s: &'a [u8], from: usize, to: usize) -> &'a [u8] {
 // Whether the listed answer is the computed one: an element, and behind it the products counted.
 fn is_listed(word: &[u8], computed: Counted) -> bool {
     let mut answer = [0u8; 32];
-    lines::from_hex(word, &mut answer);
+    digits::from_hex(word, &mut answer);
     let count = block::block_at(&answer, 16);
     key::same(block::block_of(&answer), computed.element)
         && key::same(
@@ -76,9 +76,9 @@ fn is_listed(word: &[u8], computed: Counted) -> bool {
 // What the library says to the first two words of a line.
 fn asked(call: Call, first: &[u8], second: &[u8]) -> Counted {
     let mut stored = [0u8; RECORD_SIZE];
-    lines::from_hex(first, &mut stored);
+    digits::from_hex(first, &mut stored);
     let mut data = [0u8; LONGEST];
-    let n = lines::from_hex(second, &mut data);
+    let n = digits::from_hex(second, &mut data);
     calls::computed(call, stored, part(&data, 0, n))
 }
 

@@ -21,7 +21,7 @@ pub(crate) fn end_of(s: &[u8], from: usize, mark: u8) -> usize
 fn put(word: &[u8], out: &mut [u8]) -> usize
     ensures { λ r. ⌜ r ≤ length (now (out .exit)) ⌝ }
 {
-    lines::from_hex(word, out)
+    digits::from_hex(word, out)
 }
 
 // The next word begins behind the space at `to`.
