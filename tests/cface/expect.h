@@ -34,8 +34,4 @@ void test_frames(void);
 void test_scan(void);
 void test_positions(void);
 
-/* A line of RFC 8452's list: right is 1 where it stands as it is there, 0 where one digit of it was changed. */
-void test_vector(const uint8_t *key, size_t key_len, const uint8_t *nonce, const uint8_t *ad, size_t ad_len,
-                 const uint8_t *plaintext, size_t plaintext_len, const uint8_t *sealed, size_t sealed_len, int right);
-
 #endif

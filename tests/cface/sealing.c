@@ -1,4 +1,4 @@
-/* Sealing and opening through the C face: RFC 8452's list, the limits, and every set of refusals in document 01's order. */
+/* Sealing and opening through the C face: the limits, and every set of refusals in document 01's order. */
 #include <string.h>
 
 #include "expect.h"
@@ -13,32 +13,6 @@ static uint8_t sealed[ROOM];
 static void untouch(void)
 {
     memset(out, UNTOUCHED, ROOM);
-}
-
-void test_vector(const uint8_t *key, size_t key_len, const uint8_t *nonce, const uint8_t *ad, size_t ad_len,
-                 const uint8_t *plaintext, size_t plaintext_len, const uint8_t *right_part, size_t part_len, int right)
-{
-    uint8_t answer;
-    EXPECT("bytes of a sealed part", part_len, plaintext_len + KHUMBUSEAL_TAG_SIZE);
-    untouch();
-    answer = khumbuseal_seal(key, key_len, nonce, 12, ad, ad_len, plaintext, plaintext_len, out, part_len);
-    EXPECT("seal", answer, KHUMBUSEAL_DONE);
-    EXPECT("sealed as listed", memcmp(out, right_part, part_len) == 0, right);
-    EXPECT_ALL("seal: bytes behind", out + part_len, ROOM - part_len, UNTOUCHED);
-    untouch();
-    answer = khumbuseal_open(key, key_len, nonce, 12, ad, ad_len, right_part, part_len, out, plaintext_len);
-    if (!right) {
-        /* a changed plaintext leaves the sealed part right, and it opens to another text than the one listed */
-        EXPECT("opened as listed", answer == 0 && memcmp(out, plaintext, plaintext_len) == 0, 0);
-        if (answer != 0) {
-            EXPECT("open", answer, KHUMBUSEAL_TAG_DIFFERS);
-            EXPECT_ALL("open: refused", out, ROOM, UNTOUCHED);
-        }
-        return;
-    }
-    EXPECT("open", answer, KHUMBUSEAL_DONE);
-    EXPECT_BYTES("opened", out, plaintext, plaintext_len);
-    EXPECT_ALL("open: bytes behind", out + plaintext_len, ROOM - plaintext_len, UNTOUCHED);
 }
 
 /* The lengths that a call of seal is given, in the order in which document 01 looks at them. */

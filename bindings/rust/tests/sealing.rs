@@ -8,46 +8,43 @@ use khumbuseal::{open, seal, Refusal, MAX_AD, MAX_PLAINTEXT};
 /// Buffers are filled with this byte, so that one which a call should have left alone shows.
 const UNTOUCHED: u8 = 0xA5;
 
-const APPENDIX_C: &str = include_str!("../../../crates/vectors_siv/data/rfc8452_appendix_c.txt");
-const SECTION_8: &str = include_str!("../../../crates/vectors_siv/data/rfc8452_section_8.txt");
-const ALTERED: &str = include_str!("../../../crates/vectors_siv/data/altered.txt");
+const APPENDIX_C: &str = include_str!("../../../tests/vectors/rfc8452_appendix_c.txt");
+const SECTION_8: &str = include_str!("../../../tests/vectors/rfc8452_section_8.txt");
 
-/// The lines of a list: key, nonce, associated data, plaintext, sealed part.
-fn lines(list: &str) -> Vec<[Vec<u8>; 5]> {
-    list.lines()
-        .filter(|line| !line.starts_with('#'))
-        .map(|line| line.split(' ').map(unhex).collect::<Vec<_>>().try_into().unwrap())
-        .collect()
+/// The lines of both lists, `REQUEST = ANSWER`: whether one was altered, the words of its request and of its answer.
+fn lines() -> impl Iterator<Item = (bool, Vec<&'static str>, Vec<&'static str>)> {
+    APPENDIX_C.lines().chain(SECTION_8.lines()).filter(|line| !line.starts_with('#')).map(|line| {
+        let (request, answer) = line.trim_start_matches('!').split_once(" = ").unwrap();
+        (line.starts_with('!'), request.split(' ').collect(), answer.split(' ').collect())
+    })
+}
+
+/// What a request to seal or to open answers: the number, and all of the buffer. What is handed back is the buffer's front.
+fn answered(request: &[&str]) -> (u8, Vec<u8>) {
+    let [key, nonce, ad, text] = [1, 2, 3, 4].map(|at| unhex(request[at]));
+    let mut out = vec![UNTOUCHED; request[5].parse().unwrap()];
+    let given = match request[0] {
+        "seal" => seal(&key, &nonce, &ad, &text, &mut out),
+        "open" => open(&key, &nonce, &ad, &text, &mut out),
+        other => panic!("{other} is neither"),
+    };
+    let given = given.map(|part| part.to_vec());
+    if let Ok(part) = &given {
+        assert_eq!(part, &out[..part.len()]);
+        assert_eq!(part.len(), if request[0] == "seal" { text.len() + 16 } else { text.len() - 16 });
+    }
+    (given.err().map_or(0, Refusal::number), out)
 }
 
 #[test]
 fn the_lists_of_rfc_8452() {
-    let all = [lines(APPENDIX_C), lines(SECTION_8)].concat();
-    assert!(all.len() > 40);
-    for [key, nonce, ad, plaintext, sealed] in all {
-        let mut out = [UNTOUCHED; 200];
-        assert_eq!(seal(&key, &nonce, &ad, &plaintext, &mut out).unwrap(), sealed);
-        assert!(out[sealed.len()..].iter().all(|&b| b == UNTOUCHED));
-        let mut out = [UNTOUCHED; 200];
-        assert_eq!(open(&key, &nonce, &ad, &sealed, &mut out).unwrap(), plaintext);
-        assert!(out[plaintext.len()..].iter().all(|&b| b == UNTOUCHED));
+    let mut right = 0;
+    for (altered, request, answer) in lines() {
+        let wanted = (answer[0].parse().unwrap(), unhex(answer[1]));
+        assert_eq!(answered(&request) == wanted, !altered, "{request:?}");
+        right += usize::from(!altered);
     }
-}
-
-#[test]
-fn altered_lines_are_neither_sealed_nor_opened_so() {
-    for [key, nonce, ad, plaintext, sealed] in lines(ALTERED) {
-        let mut out = [UNTOUCHED; 200];
-        assert_ne!(seal(&key, &nonce, &ad, &plaintext, &mut out).unwrap(), sealed);
-        let mut out = [UNTOUCHED; 200];
-        match open(&key, &nonce, &ad, &sealed, &mut out) {
-            Ok(opened) => assert_ne!(opened, plaintext),
-            Err(refusal) => {
-                assert_eq!(refusal, Refusal::TagDiffers);
-                assert_eq!(out, [UNTOUCHED; 200]);
-            }
-        }
-    }
+    assert!(right > 350);
 }
 
 /// The first number of the order whose fault is in the set.
