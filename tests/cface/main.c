@@ -5,6 +5,7 @@
 #include <string.h>
 
 #include "expect.h"
+#include "khumbuseal.h"
 
 #define WORDS 5
 #define LONGEST_WORD 1024
@@ -113,7 +114,7 @@ static void test_vectors(int right)
         EXPECT("words of a line", found, WORDS);
         for (i = 0; i < WORDS; i++)
             lengths[i] = unhex(words[i], bytes[i]);
-        EXPECT("bytes of a nonce", lengths[1], 12);
+        EXPECT("bytes of a nonce", lengths[1], KHUMBUSEAL_NONCE_SIZE);
         test_vector(bytes[0], lengths[0], bytes[1], bytes[2], lengths[2], bytes[3], lengths[3], bytes[4], lengths[4],
                     right);
     }
@@ -126,6 +127,7 @@ int main(int argc, char **argv)
     } else if (argc > 1 && strcmp(argv[1], "altered") == 0) {
         test_vectors(0);
     } else {
+        test_numbers();
         test_hashing();
         test_ghash();
         test_sealing();
