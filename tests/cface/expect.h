@@ -27,6 +27,7 @@ size_t unhex(const char *digits, uint8_t *bytes);
 void count_up(uint8_t *bytes, size_t count, uint8_t seed);
 
 /* The tests, a group in each file. */
+void test_numbers(void);
 void test_hashing(void);
 void test_ghash(void);
 void test_sealing(void);

@@ -2,6 +2,7 @@
 #include <stdio.h>
 
 #include "expect.h"
+#include "khumbuseal.h"
 
 #define LONGEST_WORD 1024
 
@@ -78,6 +79,7 @@ void count_up(uint8_t *bytes, size_t n, uint8_t seed)
 
 int main(void)
 {
+    test_numbers();
     test_hashing();
     test_ghash();
     test_sealing();
