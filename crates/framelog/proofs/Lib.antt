@@ -1,3 +1,2 @@
 -- The laws of the program framelog.
 pub mod Places
-pub mod Texts

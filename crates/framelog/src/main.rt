@@ -3,7 +3,6 @@
 // before the first line. Where a file cannot be read, the reason goes to standard error.
 use answer::DONE;
 use files::Got;
-use framing::position::Position;
 use libc::STDERR_FILENO;
 use libc::STDOUT_FILENO;
 use messaging::Message;
@@ -80,21 +79,10 @@ fn frame_line(key: &[u8], held: &[u8], kind: u8, taken: usize, offset: u64, out:
 {
     let mut plain = scratch();
     match message::read(key, held, &mut plain) {
-        Message::Position {
-            lat,
-            lon,
-            alt,
-            time,
-            taken: _,
-        } => show::position_line(
+        Message::Position { position, taken: _ } => show::position_line(
             offset,
             kind,
-            Position {
-                lat,
-                lon,
-                alt,
-                time,
-            },
+            position,
             out,
         ),
         Message::Text { len, taken: _ } => show::line(

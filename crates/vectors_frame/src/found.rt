@@ -3,7 +3,6 @@ use crate::said;
 use crate::written::KEY;
 use crate::written::marked;
 use framing::Front;
-use framing::position::Position;
 use messaging::Message;
 ghost use Prim.Native.Nat.{_-_, _≤_};
 ghost use lib.ListN.{length};
@@ -11,21 +10,9 @@ ghost use lib.ListN.{length};
 // A message with its values; a position as the bytes of the fields that were read.
 fn tell(m: Message) {
     match m {
-        Message::Position {
-            lat,
-            lon,
-            alt,
-            time,
-            taken,
-        } => {
-            let p = Position {
-                lat,
-                lon,
-                alt,
-                time,
-            };
+        Message::Position { position, taken } => {
             said::word(b"position");
-            said::hex(&frame::position::to_bytes(p));
+            said::hex(&frame::position::to_bytes(position));
             said::length(taken);
         }
         Message::Text { len, taken } => {

@@ -2,7 +2,7 @@
 use mathlib.Core.Path.{sym, _∙_}
 use native.Mathlib.Omega.{arith}
 use lib.Seq.{length-take-le}
-use Rattle.framelog.proofs.Texts.{text-fits}
+use Rattle.messaging.proofs.Texts.{text-fits}
 use Rattle.io.proofs.Counting.{counts}
 use Rattle.show.proofs.Room.{line-within}
 use borrow.Author.Needs.{needs}
