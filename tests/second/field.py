@@ -81,7 +81,7 @@ def dot(a, b):
     return result
 
 
-# ---- the R/F route: document 01, "Modules", 5
+# ---- the R/F route: document 01, "The R/F product"
 
 def words(a):
     """The low and the high word of an element: M0 and M1 in the formulas."""

@@ -8,8 +8,8 @@ use lib.ListN.{length, take, drop, replicate, length-append}
 use lib.Seq.{paste, take-all, take-at, take-add, take-append-add, drop-append-add, length-take-le}
 use Rattle.rfc8452.specs.Blocks.{blocks}
 use Rattle.rfc8452.proofs.Cut.{blocks-++, drop-zeros, pasted-zeros}
-use Rattle.hash.specs.Record.{filled}
-use Rattle.hash.specs.Calls.{wholePart, shortPart}
+use Rattle.feeding.specs.Record.{filled}
+use Rattle.feeding.specs.Calls.{wholePart, shortPart}
 
 -- t at the front of zeros, then s behind it
 pub kept-law : (t s : List ℕ) (n : ℕ) → length t ≡ n → n + length s ≤ 16

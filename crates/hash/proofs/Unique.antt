@@ -1,20 +1,20 @@
 -- For each public function, two answers that meet its contract, as the checker reads it, are equal. Assumes nothing.
 use mathlib.Core.Path.{sym, _∙_}
 use Rattle.logic.specs.Promise.{Unique}
-use Rattle.hash.proofs.Hash.zero.Kinds as zero-kinds
-use Rattle.hash.proofs.Hash.zero.Reads as zero-reads
-use Rattle.hash.proofs.Hash.start.Kinds as start-kinds
-use Rattle.hash.proofs.Hash.start.Reads as start-reads
-use Rattle.hash.proofs.Hash.feed_blocks.Kinds as feed-blocks-kinds
-use Rattle.hash.proofs.Hash.feed_blocks.Reads as feed-blocks-reads
-use Rattle.hash.proofs.Hash.feed_padded.Kinds as feed-padded-kinds
-use Rattle.hash.proofs.Hash.feed_padded.Reads as feed-padded-reads
-use Rattle.hash.proofs.Hash.feed_piece.Kinds as feed-piece-kinds
-use Rattle.hash.proofs.Hash.feed_piece.Reads as feed-piece-reads
-use Rattle.hash.proofs.Hash.finish.Kinds as finish-kinds
-use Rattle.hash.proofs.Hash.finish.Reads as finish-reads
-use Rattle.hash.proofs.Hash.reset.Kinds as reset-kinds
-use Rattle.hash.proofs.Hash.reset.Reads as reset-reads
+use Rattle.hash.proofs.records.zero.Kinds as zero-kinds
+use Rattle.hash.proofs.records.zero.Reads as zero-reads
+use Rattle.hash.proofs.starting.start.Kinds as start-kinds
+use Rattle.hash.proofs.starting.start.Reads as start-reads
+use Rattle.hash.proofs.feeds.feed_blocks.Kinds as feed-blocks-kinds
+use Rattle.hash.proofs.feeds.feed_blocks.Reads as feed-blocks-reads
+use Rattle.hash.proofs.feeds.feed_padded.Kinds as feed-padded-kinds
+use Rattle.hash.proofs.feeds.feed_padded.Reads as feed-padded-reads
+use Rattle.hash.proofs.feeds.feed_piece.Kinds as feed-piece-kinds
+use Rattle.hash.proofs.feeds.feed_piece.Reads as feed-piece-reads
+use Rattle.hash.proofs.finishing.finish.Kinds as finish-kinds
+use Rattle.hash.proofs.finishing.finish.Reads as finish-reads
+use Rattle.hash.proofs.starting.reset.Kinds as reset-kinds
+use Rattle.hash.proofs.starting.reset.Reads as reset-reads
 
 pub zero-unique : Unique 0 zero-kinds.ps zero-kinds.r zero-reads.Post
 zero-unique κs a x y e f p q = p ∙ sym q

@@ -4,7 +4,7 @@ use Prim.Native.Nat.{ℕ, zero, suc, _+_, _/_, _%_, _^_, _<_}
 use native.Mathlib.Omega.{arith}
 use Rattle.gf2.specs.Polyval.{dot}
 use Rattle.gf2.proofs.Dot.{dot-assoc, dot-lt}
-use Rattle.join.specs.Halving.{times}
+use Rattle.feeding.specs.Times.{times}
 
 pub times-lt : (h n a : ℕ) → a < 2 ^ 128 → times h n a < 2 ^ 128
 unfolding times

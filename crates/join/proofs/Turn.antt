@@ -11,9 +11,10 @@ use Rattle.field.specs.Element.{value, element}
 use Rattle.field.specs.Rf.{after}
 use Rattle.field.proofs.Element.{Sized, value-element, element-sized}
 use Rattle.join.specs.declared.halving.Halving.{Halving}
-use Rattle.join.specs.Halving.{times, dotsOf, chosen, halved}
+use Rattle.feeding.specs.Times.{times, dotsOf}
+use Rattle.join.specs.Halving.{chosen, halved}
 use Rattle.join.proofs.Times.{even, odd, once, never}
-use Rattle.join.proofs.Dots.{dots-more, dots-one, dots-none}
+use Rattle.feeding.proofs.Dots.{dots-more, dots-one, dots-none}
 
 -- the product that a state stands for
 abbrev pub stands : Halving → ℕ

@@ -1,18 +1,12 @@
 // Joining the hashes of two parts of a message, without their bytes.
 pub mod halving;
 
-use hash::Hash;
+use feeding::Hash;
+use feeding::Joined;
 use polyval::key;
 ghost use mathlib.Core.Path.{_≡_};
-ghost use Rattle.hash.specs.Record.{zeroHash};
-ghost use Rattle.join.specs.Join.{joinOf};
-
-// A call's answer, the record of both parts, and the dots that it spent.
-pub struct Joined {
-    pub answer: u8,
-    pub hash: Hash,
-    pub dots: u64,
-}
+ghost use Rattle.feeding.specs.Record.{zeroHash};
+ghost use Rattle.feeding.specs.Join.{joinOf};
 
 // A refusal: the number, and an all-zero record.
 fn refused(answer: u8) -> Joined
@@ -20,7 +14,7 @@ fn refused(answer: u8) -> Joined
 {
     Joined {
         answer,
-        hash: Hash::zero(),
+        hash: hash::zero(),
         dots: 0,
     }
 }

@@ -12,10 +12,10 @@ use lib.Dec.{eqb}
 use lib.IntN.{ℤ}
 use lib.ListN.{length, drop, length-append, length-drop, drop-of-length-le}
 use Rattle.answer.specs.Answers.{done}
-use Rattle.hash.specs.declared.Hash.{Hash}
-use Rattle.hash.specs.declared.Fed.{Fed}
-use Rattle.hash.specs.Calls.{recordAnswer, resetOf}
-use Rattle.join.specs.declared.Joined.{Joined}
+use Rattle.feeding.specs.declared.Hash.{Hash}
+use Rattle.feeding.specs.declared.Fed.{Fed}
+use Rattle.feeding.specs.Calls.{recordAnswer, resetOf}
+use Rattle.feeding.specs.declared.Joined.{Joined}
 use Rattle.framing.specs.declared.position.Position.{Position}
 use Rattle.ghash.specs.declared.parts.Started.{Started}
 use Rattle.messaging.specs.Message.{Values}

@@ -30,10 +30,10 @@ use Rattle.khumbuseal.proofs.ghashing.khumbuseal_ghash_feed_padded.Kind
 use Rattle.khumbuseal.proofs.ghashing.khumbuseal_ghash_feed_padded.Reads as ghash-feed-padded-reads
 use Rattle.khumbuseal.proofs.ghashing.khumbuseal_ghash_finish.Kinds as ghash-finish-kinds
 use Rattle.khumbuseal.proofs.ghashing.khumbuseal_ghash_finish.Reads as ghash-finish-reads
-use Rattle.khumbuseal.proofs.sealing.khumbuseal_seal.Kinds as seal-kinds
-use Rattle.khumbuseal.proofs.sealing.khumbuseal_seal.Reads as seal-reads
-use Rattle.khumbuseal.proofs.sealing.khumbuseal_open.Kinds as open-kinds
-use Rattle.khumbuseal.proofs.sealing.khumbuseal_open.Reads as open-reads
+use Rattle.khumbuseal.proofs.sealed.khumbuseal_seal.Kinds as seal-kinds
+use Rattle.khumbuseal.proofs.sealed.khumbuseal_seal.Reads as seal-reads
+use Rattle.khumbuseal.proofs.sealed.khumbuseal_open.Kinds as open-kinds
+use Rattle.khumbuseal.proofs.sealed.khumbuseal_open.Reads as open-reads
 use Rattle.khumbuseal.proofs.frames.khumbuseal_frame_write.Kinds as frame-write-kinds
 use Rattle.khumbuseal.proofs.frames.khumbuseal_frame_write.Reads as frame-write-reads
 use Rattle.khumbuseal.proofs.frames.khumbuseal_frame_read.Kinds as frame-read-kinds

@@ -4,10 +4,10 @@ use mathlib.Core.Path.{_≡_}
 use mathlib.Core.Bool.{cond}
 use mathlib.Core.List.{List}
 use lib.Dec.{eqb}
-use Rattle.polyval.specs.declared.route.Route.{Route}
-use Rattle.polyval.specs.declared.route.Route.the-variants.{Wide, Narrow, Rf}
-use Rattle.hash.specs.declared.Fed.{Fed}
-use Rattle.join.specs.declared.Joined.{Joined}
+use Rattle.feeding.specs.declared.Route.{Route}
+use Rattle.feeding.specs.declared.Route.the-variants.{Wide, Narrow, Rf}
+use Rattle.feeding.specs.declared.Fed.{Fed}
+use Rattle.feeding.specs.declared.Joined.{Joined}
 use Rattle.record.specs.Bytes.{recordBytes}
 use Rattle.khumbuseal.specs.Cells.{stored}
 

@@ -1,12 +1,13 @@
 // POLYVAL for C: hash records as byte strings of a fixed size. Any bytes are a record. A record is rewritten
 // on answer 0 alone. Assumes nothing.
-use hash::Hash;
-use polyval::route::Route;
+use feeding::Hash;
+use feeding::Route;
+use polyval::key;
 use record::RECORD_SIZE;
 ghost use mathlib.Core.Path.{_≡_};
-ghost use Rattle.polyval.specs.Key.{checkOf};
-ghost use Rattle.hash.specs.Calls.{startOf, wholeOf, paddedOf, pieceOf, finishOf, resetOf};
-ghost use Rattle.join.specs.Join.{joinOf};
+ghost use Rattle.feeding.specs.Key.{checkOf};
+ghost use Rattle.feeding.specs.Calls.{startOf, wholeOf, paddedOf, pieceOf, finishOf, resetOf};
+ghost use Rattle.feeding.specs.Join.{joinOf};
 ghost use Rattle.record.specs.Bytes.{recordOf, recordBytes};
 ghost use Rattle.khumbuseal.specs.Cells.{yesOrNo, stored};
 ghost use Rattle.khumbuseal.specs.Hashing.{routeOf, Stores, Joins};
@@ -46,7 +47,7 @@ pub extern "C" fn khumbuseal_hash_start(
 ) -> u8
     ensures { λ r. ⌜ Stores (startOf (now (key .entry))) (now (cell .entry)) r (now (cell .exit)) (now (multiplies .exit)) ⌝ }
 {
-    let started = Hash::start(key);
+    let started = hash::start(key);
     *multiplies = started.multiplies;
     store(started.answer, started.hash, cell);
     started.answer
@@ -62,7 +63,7 @@ pub extern "C" fn khumbuseal_hash_feed_blocks(
 ) -> u8
     ensures { λ r. ⌜ Stores (wholeOf (routeOf route) (recordOf (now (cell .entry))) (now (s .entry))) (now (cell .entry)) r (now (cell .exit)) (now (multiplies .exit)) ⌝ }
 {
-    let whole = record::decode(*cell).feed_blocks(route_of(route), s);
+    let whole = hash::feed_blocks(record::decode(*cell), route_of(route), s);
     *multiplies = whole.multiplies;
     store(whole.answer, whole.hash, cell);
     whole.answer
@@ -78,7 +79,7 @@ pub extern "C" fn khumbuseal_hash_feed_padded(
 ) -> u8
     ensures { λ r. ⌜ Stores (paddedOf (routeOf route) (recordOf (now (cell .entry))) (now (s .entry))) (now (cell .entry)) r (now (cell .exit)) (now (multiplies .exit)) ⌝ }
 {
-    let padded = record::decode(*cell).feed_padded(route_of(route), s);
+    let padded = hash::feed_padded(record::decode(*cell), route_of(route), s);
     *multiplies = padded.multiplies;
     store(padded.answer, padded.hash, cell);
     padded.answer
@@ -94,7 +95,7 @@ pub extern "C" fn khumbuseal_hash_feed_piece(
 ) -> u8
     ensures { λ r. ⌜ Stores (pieceOf (routeOf route) (recordOf (now (cell .entry))) (now (s .entry))) (now (cell .entry)) r (now (cell .exit)) (now (multiplies .exit)) ⌝ }
 {
-    let piece = record::decode(*cell).feed_piece(route_of(route), s);
+    let piece = hash::feed_piece(record::decode(*cell), route_of(route), s);
     *multiplies = piece.multiplies;
     store(piece.answer, piece.hash, cell);
     piece.answer
@@ -110,7 +111,7 @@ pub extern "C" fn khumbuseal_hash_finish(
 ) -> u8
     ensures { λ r. ⌜ finishOf (routeOf route) (recordOf (now (cell .entry))) ≡ record { answer = r; tag = now (tag .exit); multiplies = now (multiplies .exit) } ⌝ }
 {
-    let finished = record::decode(*cell).finish(route_of(route));
+    let finished = hash::finish(record::decode(*cell), route_of(route));
     let bytes = finished.tag;
     *tag = bytes;
     *multiplies = finished.multiplies;
@@ -122,7 +123,7 @@ pub extern "C" fn khumbuseal_hash_finish(
 pub extern "C" fn khumbuseal_hash_reset(cell: &mut [u8; RECORD_SIZE]) -> u8
     ensures { λ r. ⌜ Stores (resetOf (recordOf (now (cell .entry)))) (now (cell .entry)) r (now (cell .exit)) 0 ⌝ }
 {
-    let cleared = record::decode(*cell).reset();
+    let cleared = hash::reset(record::decode(*cell));
     store(cleared.answer, cleared.hash, cell);
     cleared.answer
 }
@@ -148,7 +149,7 @@ pub extern "C" fn khumbuseal_hash_join(
 pub extern "C" fn khumbuseal_hash_key_belongs(cell: &[u8; RECORD_SIZE]) -> u8
     ensures { λ r. ⌜ r ≡ yesOrNo (checkOf (recordOf (now (cell .entry)) .key)) ⌝ }
 {
-    if record::decode(*cell).key.check() {
+    if key::check(record::decode(*cell).key) {
         1
     } else {
         0

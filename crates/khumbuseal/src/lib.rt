@@ -4,4 +4,4 @@
 pub mod frames;
 pub mod ghashing;
 pub mod hashing;
-pub mod sealing;
+pub mod sealed;

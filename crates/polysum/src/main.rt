@@ -1,14 +1,11 @@
 // polysum KEY FILE: hashes a file in pieces under a key file of 16 raw bytes, and prints the tag in hex.
 // Where a call refuses, it prints the answer; where a file cannot be read, the reason goes to standard
 // error and nothing to standard output.
-use hash::Finished;
-use hash::Hash;
+use feeding::Finished;
+use feeding::Hash;
+use feeding::Route;
 use libc::STDERR_FILENO;
 use libc::STDOUT_FILENO;
-use polyval::route::Route;
-
-// What a key file may have at most, and a byte more, so that a longer one is told.
-const KEY_ROOM: usize = 33;
 
 // A hash on its way through a file: whether there may be more, and the answer of the last feed.
 struct Fold {
@@ -31,7 +28,7 @@ fn feed_some(fd: i32, path: &[u8], hash: Hash) -> Fold {
             hash,
         };
     }
-    let fed = hash.feed_piece(Route::Wide, &buf[..n]);
+    let fed = hash::feed_piece(hash, Route::Wide, &buf[..n]);
     let next = fed.hash;
     Fold {
         more: fed.answer == answer::DONE,
@@ -115,18 +112,18 @@ fn hash_file(path: &[u8], start: Hash) {
         return;
     }
     let hash = fold.hash;
-    report(hash.finish(Route::Wide));
+    report(hash::finish(hash, Route::Wide));
 }
 
 // Hashes the file at path under the key at key_path.
 fn run(key_path: &[u8], path: &[u8]) {
-    let mut key = [0u8; KEY_ROOM];
+    let mut key = [0u8; files::KEY_ROOM];
     let got = files::fetch(key_path, &mut key);
     if got.failed {
         return;
     }
     let n = got.count;
-    let started = Hash::start(&key[..n]);
+    let started = hash::start(&key[..n]);
     if started.answer != answer::DONE {
         refuse(started.answer);
         return;

@@ -17,10 +17,10 @@ use Rattle.polyval.proofs.key.same.Kinds as same-kinds
 use Rattle.polyval.proofs.key.same.Reads as same-reads
 use Rattle.polyval.proofs.key.h_of.Kinds as h-of-kinds
 use Rattle.polyval.proofs.key.h_of.Reads as h-of-reads
-use Rattle.polyval.proofs.key.ExpandedKey.expand.Kinds as expand-kinds
-use Rattle.polyval.proofs.key.ExpandedKey.expand.Reads as expand-reads
-use Rattle.polyval.proofs.key.ExpandedKey.check.Kinds as check-kinds
-use Rattle.polyval.proofs.key.ExpandedKey.check.Reads as check-reads
+use Rattle.polyval.proofs.key.expand.Kinds as expand-kinds
+use Rattle.polyval.proofs.key.expand.Reads as expand-reads
+use Rattle.polyval.proofs.key.check.Kinds as check-kinds
+use Rattle.polyval.proofs.key.check.Reads as check-reads
 use Rattle.polyval.proofs.route.absorb_in_groups.Kinds as absorb-in-groups-kinds
 use Rattle.polyval.proofs.route.absorb_in_groups.Reads as absorb-in-groups-reads
 use Rattle.polyval.proofs.route.absorb_alone.Kinds as absorb-alone-kinds

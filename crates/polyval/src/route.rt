@@ -1,23 +1,16 @@
-// The routes by which blocks are absorbed. The caller chooses; the choice has no effect on the answer
-// where the key's check says yes.
+// Blocks absorbed on the route that the caller chooses. The choice has no effect on the answer where the
+// key's check says yes.
 use crate::key;
-use crate::key::ExpandedKey;
 use crate::rf;
 use crate::soft;
+use feeding::ExpandedKey;
+use feeding::Route;
 use field::rf::Counted;
 ghost use mathlib.Core.Path.{_≡_};
-ghost use Rattle.polyval.specs.declared.route.Route.the-variants.{Wide, Narrow};
+ghost use Rattle.feeding.specs.declared.Route.the-variants.{Wide, Narrow};
 ghost use Rattle.rfc8452.specs.Blocks.{blocks};
-ghost use Rattle.polyval.specs.Formulas.{inGroups, alone};
-ghost use Rattle.polyval.specs.Routes.{absorbOn};
-
-// Wide multiplies by 64-bit limbs and Narrow by 32-bit limbs; both read H alone. Rf takes the key's
-// stored powers and D values, and counts its word products.
-pub enum Route {
-    Wide,
-    Narrow,
-    Rf,
-}
+ghost use Rattle.feeding.specs.Formulas.{inGroups, alone};
+ghost use Rattle.feeding.specs.Routes.{absorbOn};
 
 // By 64-bit limbs, one block after the other. H alone is read, and nothing is counted.
 fn wide(key: ExpandedKey, held: Counted, s: &[u8]) -> Counted

@@ -8,8 +8,8 @@ use lib.ListN.{length, take, length-append}
 use lib.Seq.{take-suc}
 use Rattle.octets.proofs.Numbers.{bytesOf-length}
 use Rattle.field.specs.Element.{value, element}
-use Rattle.polyval.specs.declared.key.Power.{Power}
-use Rattle.polyval.specs.Key.{powerAt}
+use Rattle.feeding.specs.declared.Power.{Power}
+use Rattle.feeding.specs.Key.{powerAt}
 use Rattle.record.specs.Bytes.{elementBytes, powersBytes}
 
 pub powers-++ : (ps qs : List Power) → powersBytes ps ++ powersBytes qs ≡ powersBytes (ps ++ qs)

@@ -12,9 +12,9 @@ use Rattle.field.specs.declared.field_element.FieldElement.{FieldElement}
 use Rattle.field.specs.Element.{value, element}
 use Rattle.field.proofs.Element.{Sized}
 use Rattle.field.proofs.Bytes.{element-bytes, bytes-element}
-use Rattle.polyval.specs.declared.key.Power.{Power}
-use Rattle.polyval.specs.Key.{powerCount}
-use Rattle.hash.specs.declared.Hash.{Hash}
+use Rattle.feeding.specs.declared.Power.{Power}
+use Rattle.feeding.specs.Key.{powerCount}
+use Rattle.feeding.specs.declared.Hash.{Hash}
 use Rattle.record.specs.Bytes.{elementBytes, powersBytes, recordBytes, keySize, recordSize, elementAt, powersAt, recordOf}
 use Rattle.record.proofs.Powers.{powers-length}
 

@@ -11,9 +11,9 @@ use Rattle.octets.specs.Numbers.{number, bytesOf}
 use Rattle.octets.proofs.Numbers.{Bytes, bytes-take, bytes-drop, bytesOf-length, number-lt}
 use Rattle.field.specs.declared.field_element.FieldElement.{FieldElement}
 use Rattle.field.specs.Element.{value, element}
-use Rattle.polyval.specs.declared.key.Power.{Power}
-use Rattle.polyval.specs.Key.{powerCount}
-use Rattle.hash.specs.declared.Hash.{Hash}
+use Rattle.feeding.specs.declared.Power.{Power}
+use Rattle.feeding.specs.Key.{powerCount}
+use Rattle.feeding.specs.declared.Hash.{Hash}
 use Rattle.octets.specs.Places.{Wrote}
 use Rattle.record.specs.Bytes.{elementBytes, powersBytes, recordBytes, recordSize, powerIn, powersAt}
 use Rattle.record.proofs.Powers.{powers-length}

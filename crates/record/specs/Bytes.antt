@@ -6,9 +6,9 @@ use lib.ListN.{take, drop}
 use Rattle.octets.specs.Numbers.{number, bytesOf}
 use Rattle.field.specs.declared.field_element.FieldElement.{FieldElement}
 use Rattle.field.specs.Element.{value, element}
-use Rattle.polyval.specs.declared.key.Power.{Power}
-use Rattle.polyval.specs.Key.{powerCount}
-use Rattle.hash.specs.declared.Hash.{Hash}
+use Rattle.feeding.specs.declared.Power.{Power}
+use Rattle.feeding.specs.Key.{powerCount}
+use Rattle.feeding.specs.declared.Hash.{Hash}
 
 -- an element has 16 bytes, and so has its D value
 abbrev pub elementBytes : FieldElement → List ℕ

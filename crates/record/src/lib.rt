@@ -1,18 +1,18 @@
 // A hash record as bytes, for callers in other languages, both ways. Any bytes are a record: every call
 // on it answers. Assumes nothing.
+use feeding::ExpandedKey;
+use feeding::Hash;
+use feeding::POWERS;
+use feeding::Power;
 use field::FieldElement;
-use hash::Hash;
 use polyval::block;
-use polyval::key::ExpandedKey;
-use polyval::key::POWERS;
-use polyval::key::Power;
 ghost use mathlib.Core.Path.{_≡_};
 ghost use mathlib.Core.List.{[], _∷_};
 ghost use Prim.Native.Nat.{_+_, _*_, _≤_};
 ghost use lib.ListN.{length};
 ghost use Rattle.octets.specs.Numbers.{bytesOf};
 ghost use Rattle.octets.specs.Places.{Wrote};
-ghost use Rattle.polyval.specs.Key.{powerCount};
+ghost use Rattle.feeding.specs.Key.{powerCount};
 ghost use Rattle.record.specs.Bytes.{powersBytes, recordBytes, keySize, powerIn, powersAt, recordOf};
 
 // The bytes of the stored key: 32 for each power.

@@ -4,3 +4,4 @@ pub mod Cut
 pub mod Parts
 pub mod Reversed
 pub mod Sealing
+pub mod Cases

@@ -10,11 +10,12 @@ use Rattle.answer.specs.Answers.{done, badRecord}
 use Rattle.octets.specs.Xor.{_⊕_}
 use Rattle.field.specs.Element.{value, element}
 use Rattle.field.proofs.Element.{Sized, value-lt, value-of}
-use Rattle.polyval.specs.Key.{hOf, sameElement}
-use Rattle.hash.specs.declared.Hash.{Hash}
-use Rattle.join.specs.declared.Joined.{Joined}
-use Rattle.join.specs.Halving.{times, multipliedBy}
-use Rattle.join.specs.Join.{joinedOr, joined}
+use Rattle.feeding.specs.Key.{hOf, sameElement}
+use Rattle.feeding.specs.declared.Hash.{Hash}
+use Rattle.feeding.specs.declared.Joined.{Joined}
+use Rattle.feeding.specs.Times.{times}
+use Rattle.join.specs.Halving.{multipliedBy}
+use Rattle.feeding.specs.Join.{joinedOr, joined}
 use Rattle.join.proofs.Times.{times-lt}
 use borrow.Author.Needs.{needs}
 use Rattle.join.proofs.join.Statement.{statement}

@@ -1,8 +1,8 @@
 -- `record::encode` meets its contract. Assumes nothing.
-use Rattle.polyval.proofs.Powers.{length-mapped}
+use Rattle.polyval.proofs.KeyTurns.{length-mapped}
 use mathlib.Core.Path.{_≡_}
 use lib.ListN.{length}
-use Rattle.polyval.specs.Key.{powerCount}
+use Rattle.feeding.specs.Key.{powerCount}
 use mathlib.Core.Path.{refl}
 use mathlib.Core.List.{append-assoc}
 use native.Mathlib.Omega.{arith}

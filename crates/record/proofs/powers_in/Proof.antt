@@ -6,7 +6,7 @@ use borrow.Author.Needs.{needs}
 use native.Mathlib.Omega.{arith}
 use lib.ListN.{length, take, length-set}
 use lib.Seq.{take-all}
-use Rattle.polyval.specs.Key.{powerCount}
+use Rattle.feeding.specs.Key.{powerCount}
 use Rattle.record.specs.Bytes.{powersAt, keySize}
 use Rattle.record.proofs.powers_in.Statement.{statement}
 use Rattle.record.proofs.powers_in.Tie as tie

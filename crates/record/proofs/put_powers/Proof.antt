@@ -7,7 +7,7 @@ use lib.ListN.{length, take}
 use lib.Seq.{take-all}
 use Rattle.octets.specs.Places.{Wrote}
 use Rattle.octets.proofs.Places.{wrote-none, then, wrote-as}
-use Rattle.polyval.specs.Key.{powerCount}
+use Rattle.feeding.specs.Key.{powerCount}
 use Rattle.record.specs.Bytes.{powersBytes, keySize}
 use Rattle.record.proofs.Powers.{one-more}
 use Rattle.record.proofs.put_powers.Statement.{statement}

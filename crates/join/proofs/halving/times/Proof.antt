@@ -6,9 +6,10 @@ use native.Mathlib.Nat.{zero-add, add-zero}
 use borrow.Author.Needs.{needs}
 use Rattle.field.specs.Element.{value, element}
 use Rattle.field.proofs.Element.{Sized, element-value}
-use Rattle.join.specs.Halving.{times, dotsOf, halved}
+use Rattle.feeding.specs.Times.{times, dotsOf}
+use Rattle.join.specs.Halving.{halved}
 use Rattle.join.proofs.Times.{never}
-use Rattle.join.proofs.Dots.{dots-none, dots-bound}
+use Rattle.feeding.proofs.Dots.{dots-none, dots-bound}
 use Rattle.join.proofs.Turn.{stands, Kept, turn}
 use Rattle.join.proofs.halving.times.Statement.{statement}
 use Rattle.join.proofs.halving.times.Tie as tie

@@ -1,7 +1,7 @@
 -- `khumbuseal::khumbuseal_hash_feed_blocks` meets its contract. Assumes nothing.
 use mathlib.Core.Path.{_∙_}
 use borrow.Author.Needs.{needs}
-use Rattle.hash.specs.Calls.{wholeOf}
+use Rattle.feeding.specs.Calls.{wholeOf}
 use Rattle.khumbuseal.proofs.Laws.{stores}
 use Rattle.khumbuseal.proofs.hashing.khumbuseal_hash_feed_blocks.Statement.{statement}
 use Rattle.khumbuseal.proofs.hashing.khumbuseal_hash_feed_blocks.Tie as tie

@@ -1,7 +1,7 @@
 -- `khumbuseal::khumbuseal_hash_feed_padded` meets its contract. Assumes nothing.
 use mathlib.Core.Path.{_∙_}
 use borrow.Author.Needs.{needs}
-use Rattle.hash.specs.Calls.{paddedOf}
+use Rattle.feeding.specs.Calls.{paddedOf}
 use Rattle.khumbuseal.proofs.Laws.{stores}
 use Rattle.khumbuseal.proofs.hashing.khumbuseal_hash_feed_padded.Statement.{statement}
 use Rattle.khumbuseal.proofs.hashing.khumbuseal_hash_feed_padded.Tie as tie

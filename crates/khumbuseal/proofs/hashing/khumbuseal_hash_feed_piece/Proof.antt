@@ -1,7 +1,7 @@
 -- `khumbuseal::khumbuseal_hash_feed_piece` meets its contract. Assumes nothing.
 use mathlib.Core.Path.{_∙_}
 use borrow.Author.Needs.{needs}
-use Rattle.hash.specs.Calls.{pieceOf}
+use Rattle.feeding.specs.Calls.{pieceOf}
 use Rattle.khumbuseal.proofs.Laws.{stores}
 use Rattle.khumbuseal.proofs.hashing.khumbuseal_hash_feed_piece.Statement.{statement}
 use Rattle.khumbuseal.proofs.hashing.khumbuseal_hash_feed_piece.Tie as tie

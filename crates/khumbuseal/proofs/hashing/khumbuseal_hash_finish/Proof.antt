@@ -1,7 +1,7 @@
 -- `khumbuseal::khumbuseal_hash_finish` meets its contract. Assumes nothing.
 use mathlib.Core.Path.{sym, _∙_}
 use borrow.Author.Needs.{needs}
-use Rattle.hash.specs.Calls.{finishOf}
+use Rattle.feeding.specs.Calls.{finishOf}
 use Rattle.khumbuseal.proofs.hashing.khumbuseal_hash_finish.Statement.{statement}
 use Rattle.khumbuseal.proofs.hashing.khumbuseal_hash_finish.Tie as tie
 

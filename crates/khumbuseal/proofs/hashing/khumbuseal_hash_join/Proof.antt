@@ -1,7 +1,7 @@
 -- `khumbuseal::khumbuseal_hash_join` meets its contract. Assumes nothing.
 use mathlib.Core.Path.{_∙_}
 use borrow.Author.Needs.{needs}
-use Rattle.join.specs.Join.{joinOf}
+use Rattle.feeding.specs.Join.{joinOf}
 use Rattle.khumbuseal.proofs.Laws.{joins}
 use Rattle.khumbuseal.proofs.hashing.khumbuseal_hash_join.Statement.{statement}
 use Rattle.khumbuseal.proofs.hashing.khumbuseal_hash_join.Tie as tie

@@ -1,7 +1,7 @@
 -- `khumbuseal::khumbuseal_hash_key_belongs` meets its contract. Assumes nothing.
 use mathlib.Core.Path.{_≡_, sym, ap, _∙_}
 use borrow.Author.Needs.{needs}
-use Rattle.polyval.specs.Key.{checkOf}
+use Rattle.feeding.specs.Key.{checkOf}
 use Rattle.record.specs.Bytes.{recordOf}
 use Rattle.khumbuseal.proofs.Laws.{yes, no}
 use Rattle.khumbuseal.proofs.hashing.khumbuseal_hash_key_belongs.Statement.{statement}

@@ -1,7 +1,7 @@
 -- `khumbuseal::khumbuseal_hash_reset` meets its contract. Assumes nothing.
 use mathlib.Core.Path.{ap, _∙_}
 use borrow.Author.Needs.{needs}
-use Rattle.hash.specs.Calls.{resetOf}
+use Rattle.feeding.specs.Calls.{resetOf}
 use Rattle.record.specs.Bytes.{recordOf}
 use Rattle.khumbuseal.proofs.Laws.{stores, reset-spends}
 use Rattle.khumbuseal.proofs.hashing.khumbuseal_hash_reset.Statement.{statement}

@@ -1,0 +1,20 @@
+-- The theorems about the definitions, and their laws.
+pub mod Powers
+pub mod Check
+pub mod Paired
+pub mod Sums
+pub mod Agree
+pub mod Alone
+pub mod Cost
+pub mod KeyCases
+pub mod Message
+pub mod OneHash
+pub mod Start
+pub mod Pieces
+pub mod Spent
+pub mod Stale
+pub mod Refused
+pub mod RecordCases
+pub mod Dots
+pub mod Whole
+pub mod JoinCases

@@ -1,4 +1,0 @@
--- What the contracts cite.
-pub mod Record
-pub mod Calls
-pub mod Feeds
