@@ -1,4 +1,3 @@
--- The laws of the program framelog: of a log's length, of a text that was read, and of where the reader stands.
+-- The laws of the program framelog: of a log's length, and of where the reader stands.
 pub mod Lengths
-pub mod Texts
 pub mod Places

@@ -1,6 +1,5 @@
 // What is printed of a log: a line for each frame, by what its reading answers, and the last line.
 use answer::DONE;
-use framing::position::Position;
 use libc::STDOUT_FILENO;
 use messaging::Message;
 ghost use mathlib.Core.Path.{_≡_};
@@ -62,21 +61,10 @@ fn frame_line(key: &[u8], held: &[u8], kind: u8, taken: usize, offset: u64, out:
 {
     let mut plain = scratch();
     match message::read(key, held, &mut plain) {
-        Message::Position {
-            lat,
-            lon,
-            alt,
-            time,
-            taken: _,
-        } => report::position_line(
+        Message::Position { position, taken: _ } => report::position_line(
             offset,
             kind,
-            Position {
-                lat,
-                lon,
-                alt,
-                time,
-            },
+            position,
             out,
         ),
         Message::Text { len, taken: _ } => text_line(offset, kind, &plain[..len], out),

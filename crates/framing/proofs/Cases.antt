@@ -7,13 +7,13 @@ use native.Mathlib.Omega.{arith}
 use lib.IntN.{pos, negℤ}
 use lib.ListN.{length, replicate}
 use Rattle.octets.specs.Numbers.{number, bytesOf}
-use Rattle.answer.specs.Answers.{lengthForKind, cutShort}
+use Rattle.answer.specs.Answers.{notAFrame, unknownKind, lengthForKind, cutShort}
 use Rattle.framing.specs.declared.Front.the-variants.{Whole, Stop}
 use Rattle.framing.specs.Position.{inRange, positionOf, positionBytes}
 use Rattle.framing.specs.Kinds.{position, text, checkIn, table, rowOf, isKnown, isAllowed, maxFramePlaintext}
 use Rattle.framing.specs.Front.{mark, checks, frontOf}
 use Rattle.framing.specs.Scan.{none, scanFrom, scanOf}
-use Rattle.framing.proofs.Fronts.{wrong-length, no-end, whole}
+use Rattle.framing.proofs.Fronts.{wrong-mark, wrong-kind, wrong-length, no-end, whole}
 
 -- the kinds, and what stands next to them
 pub kinds : map isKnown (0 ∷ position ∷ text ∷ checkIn ∷ 4 ∷ 255 ∷ []) ≡ false ∷ true ∷ true ∷ true ∷ false ∷ false ∷ []
@@ -63,6 +63,28 @@ text-177 rest = sym (wrong-length (mark ∷ text ∷ 177 ∷ 0 ∷ rest) (omega 
 pub text-16 : (rest : List ℕ) → frontOf (mark ∷ text ∷ 16 ∷ 0 ∷ rest) ≡ Stop lengthForKind
 unfolding isKnown isAllowed rowOf table
 text-16 rest = sym (wrong-length (mark ∷ text ∷ 16 ∷ 0 ∷ rest) (omega arith) refl (omega arith) refl (omega arith) refl)
+
+-- the order 9, 10, 11, 12: a wrong mark before an unknown kind, that before a length, each whatever follows; and the first
+-- missing byte is 12 at the check that needs it
+pub wrong-mark-first : (rest : List ℕ) → frontOf (0x4A ∷ rest) ≡ Stop notAFrame
+wrong-mark-first rest = sym (wrong-mark (0x4A ∷ rest) (omega arith) (λ e. omega arith))
+
+pub kind-4-second : (rest : List ℕ) → frontOf (mark ∷ 4 ∷ rest) ≡ Stop unknownKind
+unfolding isKnown rowOf table
+kind-4-second rest = sym (wrong-kind (mark ∷ 4 ∷ rest) (omega arith) refl (omega arith) refl)
+
+pub no-kind-there : frontOf (mark ∷ []) ≡ Stop cutShort
+unfolding checks frontOf
+no-kind-there = refl
+
+pub half-a-length : frontOf (mark ∷ text ∷ 177 ∷ []) ≡ Stop cutShort
+unfolding checks frontOf isKnown rowOf table
+half-a-length = refl
+
+-- the length is little-endian: 0x0020 is a position's, 0x2000 is no kind's
+pub low-byte-first : (rest : List ℕ) → frontOf (mark ∷ position ∷ 0 ∷ 32 ∷ rest) ≡ Stop lengthForKind
+unfolding isKnown isAllowed rowOf table
+low-byte-first rest = sym (wrong-length (mark ∷ position ∷ 0 ∷ 32 ∷ rest) (omega arith) refl (omega arith) refl (omega arith) refl)
 
 -- an empty buffer is 12 as a frame, stop 0 as a scan
 pub empty-frame : frontOf [] ≡ Stop cutShort

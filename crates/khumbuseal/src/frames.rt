@@ -101,19 +101,13 @@ fn cells_of(m: Message) -> MessageCells
     ensures { λ r. ⌜ r ≡ messageCells m ⌝ }
 {
     match m {
-        Message::Position {
-            lat,
-            lon,
-            alt,
-            time,
-            taken,
-        } => MessageCells {
+        Message::Position { position, taken } => MessageCells {
             answer: answer::DONE,
             kind: kind::POSITION,
-            lat,
-            lon,
-            alt,
-            time,
+            lat: position.lat,
+            lon: position.lon,
+            alt: position.alt,
+            time: position.time,
             len: 0,
             taken,
         },

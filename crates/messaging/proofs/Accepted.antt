@@ -58,7 +58,7 @@ module _ (key s out : List ℕ) (r : Message) (after : List ℕ) (bytes : Bytes 
   -- a position's plaintext is the bytes of the fields that were returned
   pub position-of-it : Bytes after → (p : Position) (n : ℕ) → r ≡ message.Position p n → positionBytes p ≡ take (valuesOf r .taken - 32) after
   position-of-it b p n e =
-      let f = spelled (kindOf s) text (takenOf s) p n (sym (yes .1) ∙ e) in
       let w = whole key s (length out) bytes (yes .0) in
+      let f = spelled (kindOf s) text (takenOf s) p n (w .known) (sym (yes .1) ∙ e) in
       let l = sixteen-bytes (kindOf s) (length text) (f .0) (ap (isAllowed (kindOf s)) (len-is key s (length out) bytes (yes .0)) ∙ w .allowed) in
       ap positionBytes (sym (f .1)) ∙ bytes-position text (subst Bytes text-is (bytes-take (valuesOf r .taken - 32) after b)) l ∙ sym text-is

@@ -4,6 +4,7 @@ pub mod Sealing
 pub mod Writing
 pub mod Reading
 pub mod Values
+pub mod Texts
 pub mod Trips
 pub mod ByKind
 pub mod Accepted

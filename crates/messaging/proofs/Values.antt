@@ -17,6 +17,9 @@ use Rattle.messaging.specs.declared.Message.the-variants as message
 use Rattle.messaging.specs.Message.{contentAnswer, messageOf, valuesOf}
 use Rattle.messaging.specs.Read.{orRefused}
 
+no : {A : Type 0} → _≡_ {A = ℕ} 0 1 → A
+no e = absurd (omega arith)
+
 -- a message that is not refused answers 0, and no other does
 pub not-refused : (a : ℕ) (m r : Message) → r ≡ orRefused a m → valuesOf r .answer ≡ 0 → (a ≡ 0) × (r ≡ m)
 not-refused a m r e z = by (eqb a 0) refl e
@@ -33,38 +36,33 @@ refused-value a m e = by (eqb a 0) refl
     by false q = refl
 
 module _ (kind : ℕ) (text : List ℕ) (taken : ℕ) where
+  -- a plaintext says one of these: what holds of each holds of it
+  pub said : (P : Message → Type 0) → P (message.Position (positionOf text) taken) → P (message.Text (length text) taken) → P (message.CheckIn taken) → P (messageOf kind text taken)
+  said P p t c = by (eqb kind kinds.position) (eqb kind kinds.text)
+    where
+      by : (a b : Bool) → P (cond a (message.Position (positionOf text) taken) (cond b (message.Text (length text) taken) (message.CheckIn taken)))
+      by true b = p
+      by false true = t
+      by false false = c
+
   -- the kind and the bytes taken are among its values
   pub kind-value : isKnown kind ≡ true → valuesOf (messageOf kind text taken) .kind ≡ kind
   unfolding table
   kind-value = each-known (λ (n : ℕ). valuesOf (messageOf n text taken) .kind ≡ n) (refl, (refl, (refl, tt))) kind
 
   pub taken-value : valuesOf (messageOf kind text taken) .taken ≡ taken
-  taken-value = by (eqb kind kinds.position) (eqb kind kinds.text)
-    where
-      by : (a b : Bool) → valuesOf (cond a (message.Position (positionOf text) taken) (cond b (message.Text (length text) taken) (message.CheckIn taken))) .taken ≡ taken
-      by true b = refl
-      by false true = refl
-      by false false = refl
+  taken-value = said (λ m. valuesOf m .taken ≡ taken) refl refl refl
 
-  -- what a plaintext says is not refused
-  answer-value : valuesOf (messageOf kind text taken) .answer ≡ 0
-  answer-value = by (eqb kind kinds.position) (eqb kind kinds.text)
-    where
-      by : (a b : Bool) → valuesOf (cond a (message.Position (positionOf text) taken) (cond b (message.Text (length text) taken) (message.CheckIn taken))) .answer ≡ 0
-      by true b = refl
-      by false true = refl
-      by false false = refl
-
-  -- so that a message, or the number that refuses its content, has that number
+  -- it is not refused, so that a message, or the number that refuses its content, has that number
   pub content-value : valuesOf (orRefused (contentAnswer kind text) (messageOf kind text taken)) .answer ≡ contentAnswer kind text
-  content-value = refused-value (contentAnswer kind text) (messageOf kind text taken) answer-value
+  content-value = refused-value (contentAnswer kind text) (messageOf kind text taken) (said (λ m. valuesOf m .answer ≡ 0) refl refl refl)
 
-  -- a position is the one that its bytes spell
-  pub spelled : (p : Position) (n : ℕ) → messageOf kind text taken ≡ message.Position p n → (kind ≡ kinds.position) × (positionOf text ≡ p)
-  spelled p n = by (eqb kind kinds.position) (eqb kind kinds.text) refl
-    where
-      by : (a b : Bool) → eqb kind kinds.position ≡ a → cond a (message.Position (positionOf text) taken) (cond b (message.Text (length text) taken) (message.CheckIn taken)) ≡ message.Position p n
-          → (kind ≡ kinds.position) × (positionOf text ≡ p)
-      by true b q e = (eqb-true kind kinds.position q, cc)
-      by false true q e = absurd (let z : _≡_ {A = ℕ} 0 1 = cc in omega arith)
-      by false false q e = absurd (let z : _≡_ {A = ℕ} 0 1 = cc in omega arith)
+  -- a position is the one that its bytes spell, and a text has their length
+  pub spelled : (p : Position) (n : ℕ) → isKnown kind ≡ true → messageOf kind text taken ≡ message.Position p n → (kind ≡ kinds.position) × (positionOf text ≡ p)
+  spelled p n k e = (
+    sym (kind-value k) ∙ ap (λ m. valuesOf m .kind) e,
+    said (λ m. m ≡ message.Position p n → positionOf text ≡ p) (λ q. cc) (λ q. no (cc)) (λ q. no (cc)) e,
+  )
+
+  pub long : (l n : ℕ) → messageOf kind text taken ≡ message.Text l n → length text ≡ l
+  long l n = said (λ m. m ≡ message.Text l n → length text ≡ l) (λ q. no (cc)) (λ q. cc) (λ q. no (cc))

@@ -38,19 +38,13 @@ fn bits(z: i32) -> u64 {
 // What a reading answered.
 fn told(m: Message) -> Said {
     match m {
-        Message::Position {
-            lat,
-            lon,
-            alt,
-            time,
-            taken,
-        } => Said {
+        Message::Position { position, taken } => Said {
             kind: POSITION,
             bytes: 0,
-            a: bits(lat),
-            b: bits(lon),
-            c: bits(alt),
-            d: time as u64,
+            a: bits(position.lat),
+            b: bits(position.lon),
+            c: bits(position.alt),
+            d: position.time as u64,
             e: taken as u64,
         },
         Message::Text { len, taken } => Said::numbers(len as u64, taken as u64, 0).of_kind(TEXT),

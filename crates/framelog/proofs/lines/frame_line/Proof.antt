@@ -2,7 +2,7 @@
 use mathlib.Core.Path.{sym, _∙_}
 use native.Mathlib.Omega.{arith}
 use lib.Seq.{length-take-le}
-use Rattle.framelog.proofs.Texts.{text-fits}
+use Rattle.messaging.proofs.Texts.{text-fits}
 use borrow.Author.Needs.{needs}
 use Rattle.framelog.proofs.lines.frame_line.Statement.{statement}
 use Rattle.framelog.proofs.lines.frame_line.Tie as tie
