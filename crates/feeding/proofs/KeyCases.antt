@@ -2,7 +2,7 @@
 use mathlib.Core.Path.{_≡_, refl, ap, _∙_}
 use mathlib.Core.Bool.{true, false}
 use mathlib.Core.List.{[], _∷_}
-use Prim.Native.Nat.{_-_}
+use Prim.Native.Nat.{_-_, _^_}
 use lib.Dec.{lit<}
 use lib.ListN.{replicate}
 use Rattle.octets.specs.Xor.{_⊕_}
@@ -11,14 +11,14 @@ use Rattle.gf2.specs.Remainder.{remainder, remainderN, timesX}
 use Rattle.gf2.specs.Polyval.{dot, unit, modulus, xInv128}
 use Rattle.gf2.proofs.Dot.{unit-lt}
 use Rattle.rfc8452.specs.Machine.{run}
-use Rattle.rfc8452.proofs.Cases.{unit-key}
+use Rattle.rfc8452.proofs.PolyvalCases.{unit-key}
 use Rattle.field.specs.Element.{element}
 use Rattle.field.specs.Rf.{counted, companionOf, total, rPart, fPart, rfReduce, rfGroup}
 use Rattle.field.proofs.Element.{value-element}
 use Rattle.feeding.specs.declared.ExpandedKey.{ExpandedKey}
 use Rattle.feeding.specs.declared.Route.the-variants.{Wide, Rf}
 use Rattle.feeding.specs.Key.{powerCount, powerOf, powersFrom, keyOf, samePowers, checkOf}
-use Rattle.feeding.specs.Formulas.{paired, groupsOf, rfRun, alone}
+use Rattle.feeding.specs.Formulas.{paired, groupOf, groupsOf, rfRun, alone}
 use Rattle.feeding.specs.Routes.{absorbOn}
 use Rattle.feeding.proofs.Check.{made-checks}
 
@@ -51,3 +51,8 @@ altered-wide = (λ i. counted (run (value-element unit unit-lt i) 0 (1 ∷ [])) 
 pub altered-rf : absorbOn Rf alone altered (counted 0 0) (1 ∷ []) ≡ counted 0 5
 unfolding rfRun groupsOf paired rfGroup total rPart fPart rfReduce clmul clmulN unit _⊕_
 altered-rf = refl
+
+-- two blocks in one group: the element held joins the first block alone, which meets the second power; the last block meets H
+pub two-blocks : groupOf (record { h = element 0; d = element (2 ^ 64) } ∷ record { h = element 0; d = element 0 } ∷ []) (counted 1 0) (0 ∷ 5 ∷ []) ≡ counted 5 9
+unfolding paired rfGroup total rPart fPart rfReduce clmul clmulN _⊕_
+two-blocks = refl

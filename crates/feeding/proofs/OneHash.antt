@@ -150,7 +150,7 @@ feed-step (Piece route s) h ok good bytes e =
     subst (λ x. Takes h (x .hash) s) (sym (a .1)) (pieced-step h ok route good s bytes)
 
 -- the record after a list: the message so far is hashed into it
-fed-list : (fs : List Feed) (h : Hash) → Stored h → Proper (h .key) fs → Accepted h fs
+pub fed-list : (fs : List Feed) (h : Hash) → Stored h → Proper (h .key) fs → Accepted h fs
     → (Stored (fedAll h fs)) × (fedAll h fs .key ≡ h .key) × ((rest : List ℕ) → hashed h (fedString fs ++ rest) ≡ hashed (fedAll h fs) rest)
 fed-list [] h ok proper done-all = (ok, refl, λ rest. refl)
 fed-list (f ∷ fs) h ok proper done-all =
@@ -160,7 +160,7 @@ fed-list (f ∷ fs) h ok proper done-all =
     (more .0, more .1 ∙ one .key, λ rest. ap (hashed h) (append-assoc (standsFor f) (fedString fs) rest) ∙ one .same (fedString fs ++ rest) ∙ more .2 rest)
 
 -- after a feed at most 15 bytes are pending
-fed-few : (fs : List Feed) (h : Hash) → Stored h → Proper (h .key) fs → Accepted h fs → h .count ≤ 15 → fedAll h fs .count ≤ 15
+pub fed-few : (fs : List Feed) (h : Hash) → Stored h → Proper (h .key) fs → Accepted h fs → h .count ≤ 15 → fedAll h fs .count ≤ 15
 fed-few [] h ok proper done-all few = few
 fed-few (f ∷ fs) h ok proper done-all few =
     let one = feed-step f h ok (proper .0) (proper .1) (done-all .0) in

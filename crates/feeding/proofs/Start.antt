@@ -4,8 +4,8 @@ use mathlib.Core.Bool.{true, cond, not}
 use mathlib.Core.List.{List, [], _∷_}
 use Prim.Native.Nat.{ℕ, zero-le, _^_, _<_}
 use lib.ListN.{length, replicate}
-use borrow.Author.Tests.{eq-eqb}
-use Rattle.answer.specs.Answers.{done, keyLength}
+use borrow.Author.Tests.{eq-eqb, le-ltb}
+use Rattle.answer.specs.Answers.{done, keyLength, badRecord}
 use Rattle.octets.specs.Numbers.{number, bytesOf}
 use Rattle.octets.proofs.Numbers.{bytes-zeros, Bytes, number-lt}
 use Rattle.field.specs.Rf.{counted}
@@ -21,7 +21,7 @@ use Rattle.feeding.specs.declared.Hash.{Hash}
 use Rattle.feeding.specs.Record.{holding, fedOr}
 use Rattle.feeding.specs.Calls.{recordAnswer, startOf, finishOf, resetOf}
 use Rattle.feeding.specs.Feeds.{Feed, Accepted, fedAll, fedString}
-use Rattle.feeding.proofs.OneHash.{accepted-made, Stored, Proper, routeTaken, fedBytes, one-hash}
+use Rattle.feeding.proofs.OneHash.{accepted-made, Stored, Proper, routeTaken, fedBytes, fed-list, fed-few, one-hash}
 
 -- the feeds hold bytes
 abbrev pub AllBytes : List Feed → Type 0
@@ -44,10 +44,6 @@ module _ (key : List ℕ) (long : length key ≡ 16) (bytes : Bytes key) where
   -- "every expanded key we make passes it"
   pub start-checks : checkOf (startOf key .hash .key) ≡ true
   start-checks = ap (λ r. checkOf (r .hash .key)) started ∙ made-checks (number key) h-lt
-
-  -- reset of a started record is the started record
-  pub reset-started : resetOf (startOf key .hash) .hash ≡ startOf key .hash
-  reset-started = ap (λ r. resetOf (r .hash) .hash) started ∙ sym (ap (λ r. r .hash) started)
 
   abbrev begun : Hash
   begun = holding (keyOf (number key)) (counted 0 expansionCost) [] .hash
@@ -72,3 +68,13 @@ module _ (key : List ℕ) (long : length key ≡ 16) (bytes : Bytes key) where
       subst (λ h. (finishOf route (fedAll h fs) .answer ≡ done) × (finishOf route (fedAll h fs) .tag ≡ bytesOf 16 (polyval (number key) (blocks (fedString fs))))) (sym e)
       (let r = one-hash begun fs route stored zero-le (proper fs b) (good route) (subst (λ h. Accepted h fs) e ok) in
       (r .0, r .1 ∙ ap (λ n. bytesOf 16 (run n 0 (blocks (fedString fs)))) (value-hOf (number key) h-lt)))
+
+  -- reset of a started record, whatever was fed to it, is the started record
+  pub reset-started : (fs : List Feed) → AllBytes fs → Accepted (startOf key .hash) fs → resetOf (fedAll (startOf key .hash) fs) .hash ≡ startOf key .hash
+  reset-started fs b ok =
+      let e = ap (λ r. r .hash) started in
+      let ok-begun = subst (λ h. Accepted h fs) e ok in
+      let few = fed-few fs begun stored (proper fs b) ok-begun zero-le in
+      subst (λ h. resetOf (fedAll h fs) .hash ≡ h) (sym e)
+      (ap (λ t. fedOr (cond t badRecord done) (holding (fedAll begun fs .key) (counted 0 0) []) .hash) (le-ltb 15 (fedAll begun fs .count) few)
+      ∙ ap (λ k. holding k (counted 0 0) [] .hash) (fed-list fs begun stored (proper fs b) ok-begun .1))

@@ -4,7 +4,7 @@ use libc::STDOUT_FILENO;
 use messaging::Message;
 ghost use mathlib.Core.Path.{_≡_};
 ghost use lib.ListN.{length};
-ghost use Rattle.io.specs.Counts.{Counts};
+ghost use Rattle.reporting.specs.Lines.{AtFront};
 ghost use Rattle.framing.specs.declared.Front.the-variants.{Whole};
 ghost use Rattle.frame.specs.Kinds.{maxFramePlaintext};
 ghost use Rattle.framing.specs.Front.{frontOf};
@@ -16,35 +16,48 @@ fn scratch() -> [u8; framing::kind::MAX_PLAINTEXT]
     [0; framing::kind::MAX_PLAINTEXT]
 }
 
-// The line of a frame that was refused, with what its answer means.
-fn refused(offset: u64, kind: u8, why: u8, meaning: &[u8], out: &mut [u8]) -> usize
-    ensures { λ r. ⌜ Counts r (now (out .exit)) ⌝ }
+// A line that says a word and nothing more.
+fn word_line(offset: u64, kind: u8, answer: u8, word: &[u8], out: &mut [u8]) -> usize
+    ensures { λ r. ⌜ AtFront r (now (out .exit)) ⌝ }
 {
-    report::line(offset, kind, why, b"refused: ", meaning, out)
+    report::line(offset, kind, answer, word, b"", out)
 }
 
-// The line of a frame that was refused.
+// The line of a text.
+fn text_line(offset: u64, kind: u8, text: &[u8], out: &mut [u8]) -> usize
+    ensures { λ r. ⌜ AtFront r (now (out .exit)) ⌝ }
+{
+    report::line(offset, kind, DONE, b"text: ", text, out)
+}
+
+// The line of a frame that was refused, with what its answer means.
 fn refused_line(offset: u64, kind: u8, why: u8, out: &mut [u8]) -> usize
-    ensures { λ r. ⌜ Counts r (now (out .exit)) ⌝ }
+    ensures { λ r. ⌜ AtFront r (now (out .exit)) ⌝ }
 {
     match why {
-        answer::KEY_LENGTH => refused(
+        answer::KEY_LENGTH => word_line(
             offset,
             kind,
             why,
-            b"the key is not 16 or 32 bytes long",
+            b"refused: the key is not 16 or 32 bytes long",
             out,
         ),
-        answer::TAG_DIFFERS => refused(offset, kind, why, b"the tag differs", out),
-        answer::OUT_OF_RANGE => refused(offset, kind, why, b"the position is out of range", out),
-        _ => report::line(offset, kind, why, b"refused", b"", out),
+        answer::TAG_DIFFERS => word_line(offset, kind, why, b"refused: the tag differs", out),
+        answer::OUT_OF_RANGE => word_line(
+            offset,
+            kind,
+            why,
+            b"refused: the position is out of range",
+            out,
+        ),
+        _ => word_line(offset, kind, why, b"refused", out),
     }
 }
 
 // The line of the frame at the front of held: what it says, where its answer is 0.
 fn frame_line(key: &[u8], held: &[u8], kind: u8, taken: usize, offset: u64, out: &mut [u8]) -> usize
     requires { ⌜ frontOf (now held) ≡ Whole kind taken ⌝ }
-    ensures { λ r. ⌜ Counts r (now (out .exit)) ⌝ }
+    ensures { λ r. ⌜ AtFront r (now (out .exit)) ⌝ }
 {
     let mut plain = scratch();
     match message::read(key, held, &mut plain) {
@@ -54,15 +67,8 @@ fn frame_line(key: &[u8], held: &[u8], kind: u8, taken: usize, offset: u64, out:
             position,
             out,
         ),
-        Message::Text { len, taken: _ } => report::line(
-            offset,
-            kind,
-            DONE,
-            b"text: ",
-            &plain[..len],
-            out,
-        ),
-        Message::CheckIn { taken: _ } => report::line(offset, kind, DONE, b"check-in", b"", out),
+        Message::Text { len, taken: _ } => text_line(offset, kind, &plain[..len], out),
+        Message::CheckIn { taken: _ } => word_line(offset, kind, DONE, b"check-in", out),
         Message::Refused(why) => refused_line(offset, kind, why, out),
     }
 }
@@ -78,7 +84,7 @@ pub(crate) fn put_frame(key: &[u8], held: &[u8], kind: u8, taken: usize, offset:
 
 // The last line, with what the stop reason means.
 fn stop_line(reason: u8, offset: u64, frames: u64, out: &mut [u8]) -> usize
-    ensures { λ r. ⌜ Counts r (now (out .exit)) ⌝ }
+    ensures { λ r. ⌜ AtFront r (now (out .exit)) ⌝ }
 {
     match reason {
         answer::DONE => report::stop_line(reason, offset, frames, b"the end of the log", out),

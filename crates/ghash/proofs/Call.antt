@@ -20,7 +20,7 @@ use Rattle.ghash.specs.declared.parts.Ghash.{Ghash}
 use Rattle.ghash.specs.declared.parts.Started.{Started}
 use Rattle.ghash.specs.declared.Hashed.{Hashed}
 use Rattle.rfc8452.specs.AppendixA.{reversed, keyFor}
-use Rattle.ghash.specs.Calls.{startOf, fedOf, tagOf, hashedOf}
+use Rattle.ghash.specs.Calls.{ghashStartOf, fedOf, ghashTagOf, hashedOf}
 use Rattle.rfc8452.proofs.Reversed.{reversed-lt}
 
 pub keyFor-lt : (key : List ℕ) → keyFor key < 2 ^ 128
@@ -50,7 +50,7 @@ module _ (key s : List ℕ) where
   refused-by false u n = refl
 
   -- start has refused
-  pub start-refused : (startOf key .answer ≡ done → ⊥) → _≡_ {A = Hashed} (record { answer = startOf key .answer; tag = replicate 16 0 }) (hashedOf key s)
+  pub start-refused : (ghashStartOf key .answer ≡ done → ⊥) → _≡_ {A = Hashed} (record { answer = ghashStartOf key .answer; tag = replicate 16 0 }) (hashedOf key s)
   unfolding startBy hashedBy
   start-refused n = refused-by (eqb (length key) 16) (eqb (length s % 16) 0) n
 
@@ -59,24 +59,24 @@ module _ (key s : List ℕ) where
   accepted-by true e = refl
   accepted-by false e = absurd (omega arith)
 
-  accepted : startOf key .answer ≡ done → eqb (length key) 16 ≡ true
+  accepted : ghashStartOf key .answer ≡ done → eqb (length key) 16 ≡ true
   unfolding startBy
   accepted e = accepted-by (eqb (length key) 16) e
 
   -- start has not, and the blocks are not whole
-  pub not-whole : startOf key .answer ≡ done → eqb (length s % 16) 0 ≡ false → _≡_ {A = Hashed} (record { answer = notWholeBlocks; tag = replicate 16 0 }) (hashedOf key s)
+  pub not-whole : ghashStartOf key .answer ≡ done → eqb (length s % 16) 0 ≡ false → _≡_ {A = Hashed} (record { answer = notWholeBlocks; tag = replicate 16 0 }) (hashedOf key s)
   unfolding hashedBy
   not-whole e u = sym (ap₂ hashedBy (accepted e) u)
 
   -- the hash
-  fed-tag : tagOf (fedOf begun s) ≡ tag
+  fed-tag : ghashTagOf (fedOf begun s) ≡ tag
   fed-tag =
       let xs : List ℕ = map reversed (blocks s) in
       let k : ℕ = value (element (keyFor key)) in
       ap (λ n. reverse (bytesOf 16 n))
       (value-element (run k 0 xs) (run-lt k 0 xs (pow-pos 128)) ∙ ap (λ n. run n 0 xs) (value-element (keyFor key) (keyFor-lt key)))
 
-  pub hashed : startOf key .answer ≡ done → eqb (length s % 16) 0 ≡ true → _≡_ {A = Hashed} (record { answer = done; tag = tagOf (fedOf (startOf key .ghash) s) }) (hashedOf key s)
+  pub hashed : ghashStartOf key .answer ≡ done → eqb (length s % 16) 0 ≡ true → _≡_ {A = Hashed} (record { answer = done; tag = ghashTagOf (fedOf (ghashStartOf key .ghash) s) }) (hashedOf key s)
   unfolding startBy hashedBy
   hashed e u =
-      (λ i. record { answer = done; tag = tagOf (fedOf (startBy (accepted e i) .ghash) s) }) ∙ (λ i. record { answer = done; tag = fed-tag i }) ∙ sym (ap₂ hashedBy (accepted e) u)
+      (λ i. record { answer = done; tag = ghashTagOf (fedOf (startBy (accepted e i) .ghash) s) }) ∙ (λ i. record { answer = done; tag = fed-tag i }) ∙ sym (ap₂ hashedBy (accepted e) u)

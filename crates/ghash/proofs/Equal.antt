@@ -11,7 +11,7 @@ use Rattle.octets.specs.Numbers.{bytesOf}
 use Rattle.octets.proofs.Numbers.{Bytes}
 use Rattle.rfc8452.specs.Machine.{polyval}
 use Rattle.rfc8452.specs.Blocks.{blocks}
-use Rattle.sp800_38d.specs.Ghash.{ghashOf, bits, bitBlocks}
+use Rattle.sp800_38d.specs.Ghash.{ghashOf, bitString, bitBlocks}
 use Rattle.rfc8452.specs.AppendixA.{reversed, keyFor}
 use Rattle.ghash.specs.Calls.{hashedOf, nistOf}
 use Rattle.ghash.specs.declared.Hashed.{Hashed}
@@ -27,6 +27,6 @@ call-is key s bk bs = by-key (eqb (length key) 16) refl
     made : Bool → ℕ → Hashed
     made t v = cond (eqb (answer t) done) (record { answer = done; tag = reverse (bytesOf 16 v) }) (record { answer = answer t; tag = replicate 16 0 })
 
-    by-key : (t : Bool) → eqb (length key) 16 ≡ t → made (eqb (length key) 16) (polyval (keyFor key) (map reversed (blocks s))) ≡ made (eqb (length key) 16) (ghashOf (bits key) (bitBlocks s))
+    by-key : (t : Bool) → eqb (length key) 16 ≡ t → made (eqb (length key) 16) (polyval (keyFor key) (map reversed (blocks s))) ≡ made (eqb (length key) 16) (ghashOf (bitString key) (bitBlocks s))
     by-key true e = ap (made (eqb (length key) 16)) (ghash-is key s bk (eqb-true (length key) 16 e) bs)
-    by-key false e = ap (λ t. made t (polyval (keyFor key) (map reversed (blocks s)))) e ∙ sym (ap (λ t. made t (ghashOf (bits key) (bitBlocks s))) e)
+    by-key false e = ap (λ t. made t (polyval (keyFor key) (map reversed (blocks s)))) e ∙ sym (ap (λ t. made t (ghashOf (bitString key) (bitBlocks s))) e)

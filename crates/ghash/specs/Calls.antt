@@ -11,25 +11,25 @@ use Rattle.field.specs.Element.{value, element}
 use Rattle.rfc8452.specs.Machine.{run, polyval}
 use Rattle.rfc8452.specs.Blocks.{blocks}
 use Rattle.rfc8452.specs.AppendixA.{reversed, keyFor}
-use Rattle.sp800_38d.specs.Ghash.{ghashOf, bits, bitBlocks}
+use Rattle.sp800_38d.specs.Ghash.{ghashOf, bitString, bitBlocks}
 use Rattle.ghash.specs.declared.parts.Ghash.{Ghash}
 use Rattle.ghash.specs.declared.parts.Started.{Started}
 use Rattle.ghash.specs.declared.Hashed.{Hashed}
 
-abbrev pub startAnswer : (key : List ℕ) → ℕ
-startAnswer key = first (not (eqb (length key) 16) ⇒ keyLength ∷ [])
+abbrev pub ghashStartAnswer : (key : List ℕ) → ℕ
+ghashStartAnswer key = first (not (eqb (length key) 16) ⇒ keyLength ∷ [])
 
-abbrev pub startOf : (key : List ℕ) → Started
-startOf key =
-    cond (eqb (startAnswer key) done) (record { answer = done; ghash = record { key = element (keyFor key); acc = element 0 } })
-    (record { answer = startAnswer key; ghash = record { key = element 0; acc = element 0 } })
+abbrev pub ghashStartOf : (key : List ℕ) → Started
+ghashStartOf key =
+    cond (eqb (ghashStartAnswer key) done) (record { answer = done; ghash = record { key = element (keyFor key); acc = element 0 } })
+    (record { answer = ghashStartAnswer key; ghash = record { key = element 0; acc = element 0 } })
 
 -- a padded feed: all blocks of s
 abbrev pub fedOf : Ghash → List ℕ → Ghash
 fedOf g s = record { key = g .key; acc = element (run (value (g .key)) (value (g .acc)) (map reversed (blocks s))) }
 
-abbrev pub tagOf : Ghash → List ℕ
-tagOf g = reverse (bytesOf 16 (value (g .acc)))
+abbrev pub ghashTagOf : Ghash → List ℕ
+ghashTagOf g = reverse (bytesOf 16 (value (g .acc)))
 
 -- the whole call: 1, then 3
 abbrev pub ghashAnswer : (key s : List ℕ) → ℕ
@@ -43,5 +43,5 @@ hashedOf key s =
 -- the same call in SP 800-38D's own terms: Equal's `call-is` says that they are one
 abbrev pub nistOf : (key s : List ℕ) → Hashed
 nistOf key s =
-    cond (eqb (ghashAnswer key s) done) (record { answer = done; tag = reverse (bytesOf 16 (ghashOf (bits key) (bitBlocks s))) })
+    cond (eqb (ghashAnswer key s) done) (record { answer = done; tag = reverse (bytesOf 16 (ghashOf (bitString key) (bitBlocks s))) })
     (record { answer = ghashAnswer key s; tag = replicate 16 0 })

@@ -3,7 +3,7 @@ use field::FieldElement;
 use polyval::block;
 use polyval::soft;
 ghost use mathlib.Core.Path.{_≡_};
-ghost use Rattle.ghash.specs.Calls.{startOf, fedOf, tagOf};
+ghost use Rattle.ghash.specs.Calls.{ghashStartOf, fedOf, ghashTagOf};
 
 // POLYVAL's key for GHASH's, and the element.
 pub struct Ghash {
@@ -20,7 +20,7 @@ pub struct Started {
 impl Ghash {
     // A record under a key of 16 bytes, with nothing absorbed.
     pub fn start(key: &[u8]) -> Started
-        ensures { λ r. ⌜ r ≡ startOf (now (key .entry)) ⌝ }
+        ensures { λ r. ⌜ r ≡ ghashStartOf (now (key .entry)) ⌝ }
     {
         if key.len() != 16 {
             return Started {
@@ -57,7 +57,7 @@ impl Ghash {
 
     // The hash of all that was fed. The record is as it was.
     pub fn finish(self) -> [u8; 16]
-        ensures { λ r. ⌜ r ≡ tagOf self ⌝ }
+        ensures { λ r. ⌜ r ≡ ghashTagOf self ⌝ }
     {
         let acc = self.acc;
         acc.reverse().to_bytes()

@@ -4,7 +4,7 @@ use ghash::parts::Ghash;
 use polyval::block;
 ghost use mathlib.Core.Path.{_≡_};
 ghost use mathlib.Core.List.{_++_};
-ghost use Rattle.ghash.specs.Calls.{startOf, fedOf, tagOf, hashedOf};
+ghost use Rattle.ghash.specs.Calls.{ghashStartOf, fedOf, ghashTagOf, hashedOf};
 ghost use Rattle.khumbuseal.specs.Ghashing.{ghashBytes, ghashIn, Begins};
 
 // The bytes of a GHASH record: two elements.
@@ -52,7 +52,7 @@ pub extern "C" fn khumbuseal_ghash(key: &[u8], s: &[u8], tag: &mut [u8; 16]) -> 
 // Makes a record under a key of 16 bytes.
 #[no_mangle]
 pub extern "C" fn khumbuseal_ghash_start(cell: &mut [u8; GHASH_SIZE], key: &[u8]) -> u8
-    ensures { λ r. ⌜ Begins (startOf (now (key .entry))) (now (cell .entry)) r (now (cell .exit)) ⌝ }
+    ensures { λ r. ⌜ Begins (ghashStartOf (now (key .entry))) (now (cell .entry)) r (now (cell .exit)) ⌝ }
 {
     let started = Ghash::start(key);
     if started.answer == answer::DONE {
@@ -74,7 +74,7 @@ pub extern "C" fn khumbuseal_ghash_feed_padded(cell: &mut [u8; GHASH_SIZE], s: &
 // The hash of all that was fed. The record is as it was.
 #[no_mangle]
 pub extern "C" fn khumbuseal_ghash_finish(cell: &[u8; GHASH_SIZE], tag: &mut [u8; 16])
-    ensures { λ _. ⌜ now (tag .exit) ≡ tagOf (ghashIn (now (cell .entry))) ⌝ }
+    ensures { λ _. ⌜ now (tag .exit) ≡ ghashTagOf (ghashIn (now (cell .entry))) ⌝ }
 {
     let bytes = decoded(*cell).finish();
     *tag = bytes;

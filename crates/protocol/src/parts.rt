@@ -33,7 +33,7 @@ pub(crate) fn byte_at(s: &[u8], i: usize) -> u8 {
     if i < s.len() { s[i] } else { 0 }
 }
 
-// What lies behind the byte at i, before `end`: or `end`.
+// The place behind i, or i where that is the end.
 pub(crate) fn behind(i: usize, end: usize) -> usize
     requires { ⌜ i ≤ end ⌝ }
     ensures { λ r. ⌜ (i ≤ r) × (r ≤ end) ⌝ }

@@ -2,9 +2,10 @@
 // waits then. What waits is written out between two answers, while the longest answer still has room.
 //
 // A form says how an answer is printed. Its capitals stand for what a call said: N the next number, I the next one as
-// the bits of a signed one, X and Y the next one as a word of 16 and of 8 hex digits, _ passes one over; E the first 16 bytes of the space, B as
-// many as the call counted, A and P the 16 bytes behind those and the next 16 (a record lies there as its key, its element and
-// its pending bytes); O the whole output buffer. A comma is a space, and all else is itself. Alternatives have | between them.
+// the bits of a signed one, X and Y the next one as a word of 16 and of 8 hex digits, and _ passes one over; E the first 16
+// bytes of the space, B as many as the call counted, A and P the 16 behind those and the next 16 (a record lies there as its key,
+// its element and its pending bytes); O the whole output buffer. A comma is a space, and all else is itself. Alternatives have
+// | between them.
 use crate::parts;
 use crate::table::Request;
 use libc::STDOUT_FILENO;

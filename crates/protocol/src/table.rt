@@ -1,7 +1,7 @@
 // The table of requests, and the request that a line is.
 //
-// A row has four words and ends with a line end: the request's name; two letters by which the program that answers knows it;
-// a letter for each word that follows the name (module words); the form of its answer (module said).
+// A row is a line of four words: the request's name; two letters by which the program that answers knows it; a letter for each
+// word that follows the name (module words); the form of its answer (module said).
 use crate::input::Reading;
 use crate::parts;
 use crate::words;
@@ -20,7 +20,7 @@ struct Row {
 }
 
 impl Row {
-    // That of what is no request: a form of no sign.
+    // That of a name which the table has not.
     fn none() -> Row {
         Row {
             group: 0,

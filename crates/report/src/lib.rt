@@ -21,7 +21,7 @@ ghost use lib.Dec.{leb};
 ghost use Rattle.octets.specs.Places.{Wrote};
 ghost use Rattle.reporting.specs.Ascii.{ascii};
 ghost use Rattle.reporting.specs.Escapes.{escaped};
-ghost use Rattle.reporting.specs.Lines.{lineOf, positionLineOf, stopLineOf, roomFor, Line};
+ghost use Rattle.reporting.specs.Lines.{lineOf, positionLineOf, stopLineOf, roomFor, Line, AtFront};
 
 // Room for all of a line but the bytes that are escaped, each of which may take four.
 pub const ROOM: usize = 256;
@@ -60,6 +60,7 @@ fn put_line(out: &mut [u8], offset: u64, kind: u8, answer: u8, label: &[u8], s: 
 // length, or 0 where out has no room, which it then leaves as it was.
 pub fn line(offset: u64, kind: u8, answer: u8, label: &[u8], s: &[u8], out: &mut [u8]) -> usize
     ensures { λ r. ⌜ Line (length (now (label .entry)) + length (now (s .entry))) (lineOf offset kind answer (now (label .entry)) (now (s .entry))) (now (out .entry)) (now (out .exit)) r ⌝ }
+    ensures { λ r. ⌜ AtFront r (now (out .exit)) ⌝ }
 {
     if is_enough(out.len(), label.len() + s.len()) {
         return put_line(out, offset, kind, answer, label, s);
@@ -82,6 +83,7 @@ fn put_position_line(out: &mut [u8], offset: u64, kind: u8, p: Position) -> usiz
 // The line of a position that was opened.
 pub fn position_line(offset: u64, kind: u8, p: Position, out: &mut [u8]) -> usize
     ensures { λ r. ⌜ Line 0 (positionLineOf offset kind (p .lat) (p .lon) (p .alt) (p .time)) (now (out .entry)) (now (out .exit)) r ⌝ }
+    ensures { λ r. ⌜ AtFront r (now (out .exit)) ⌝ }
 {
     if is_enough(out.len(), 0) {
         return put_position_line(out, offset, kind, p);
@@ -101,6 +103,7 @@ fn put_stop_line(out: &mut [u8], reason: u8, offset: u64, frames: u64, note: &[u
 // The last line of a log's report, with a note that is escaped.
 pub fn stop_line(reason: u8, offset: u64, frames: u64, note: &[u8], out: &mut [u8]) -> usize
     ensures { λ r. ⌜ Line (length (now (note .entry))) (stopLineOf reason offset frames (now (note .entry))) (now (out .entry)) (now (out .exit)) r ⌝ }
+    ensures { λ r. ⌜ AtFront r (now (out .exit)) ⌝ }
 {
     if is_enough(out.len(), note.len()) {
         return put_stop_line(out, reason, offset, frames, note);

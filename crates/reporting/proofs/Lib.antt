@@ -1,4 +1,5 @@
 -- What a line can hold, that what it shows can be read back, and cases; the laws of numbers, of escapes and of room.
+pub mod Printable
 pub mod Safe
 pub mod ReadBack
 pub mod Cases

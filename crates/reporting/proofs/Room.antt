@@ -8,8 +8,9 @@ use native.Mathlib.Omega.{arith}
 use borrow.Author.Tests.{le-leb, lt-leb, leb-true, leb-false}
 use lib.Dec.{leb}
 use lib.ListN.{length, drop, length-append}
+use lib.Seq.{length-take-le}
 use Rattle.octets.specs.Places.{Wrote}
-use Rattle.reporting.specs.Lines.{roomFor, Line}
+use Rattle.reporting.specs.Lines.{roomFor, Line, AtFront}
 
 -- by quarters
 pub by-quarters : (room n : ℕ) → 256 ≤ room → leb n ((room - 256) / 4) ≡ leb (roomFor n) room
@@ -33,7 +34,7 @@ no-room n text out e =
     record { out-is = sym (ap (λ (b : Bool). cond b (text ++ drop (length text) out) out) e); length-is = sym (ap (λ (b : Bool). cond b (length text) 0) e) }
 
 -- a line lies within the buffer
-pub line-within : {n r : ℕ} {text out out′ : List ℕ} → Line n text out out′ r → r ≤ length out′
+line-within : {n r : ℕ} {text out out′ : List ℕ} → Line n text out out′ r → r ≤ length out′
 line-within {n} {r} {text} {out} {out′} l = by-test (leb (roomFor n) (length out)) refl
   where
     by-test : (b : Bool) → leb (roomFor n) (length out) ≡ b → r ≤ length out′
@@ -43,3 +44,6 @@ line-within {n} {r} {text} {out} {out′} l = by-test (leb (roomFor n) (length o
         let q : r ≡ length text = l .length-is ∙ ap (λ (b : Bool). cond b (length text) 0) e in
         omega arith
     by-test false e = let q : r ≡ 0 = l .length-is ∙ ap (λ (b : Bool). cond b (length text) 0) e in omega arith
+
+pub line-at-front : {n r : ℕ} {text out out′ : List ℕ} → Line n text out out′ r → AtFront r out′
+line-at-front l = (line-within l, sym (length-take-le _ _ (line-within l)))

@@ -1,8 +1,8 @@
 -- Whatever a frame holds, a line holds nothing but bytes from 0x20 to 0x7E, and a newline at its end alone: nothing can act on
 -- a terminal, and no line can be forged. Assumes nothing.
 use Prim.Native.Nat.{ℕ, zero, suc, _+_, _/_, _%_, _^_, _≤_, _<_}
-use mathlib.Core.Path.{_≡_, refl, sym, ap, _∙_}
-use mathlib.Core.List.{List, [], _∷_, _++_, append-assoc}
+use mathlib.Core.Path.{_≡_, refl}
+use mathlib.Core.List.{List, [], _∷_}
 use mathlib.Core.Bool.{Bool, true, false, cond}
 use native.Mathlib.Omega.{arith}
 use borrow.Author.Tests.{ltb-true, leb-true}
@@ -12,36 +12,9 @@ use Rattle.octets.proofs.Numbers.{Bytes}
 use Rattle.reporting.specs.Ascii.{ascii}
 use Rattle.reporting.specs.Numbers.{lastDigit, digits, digitCount, decimal, sign, inPlaces, fixed}
 use Rattle.reporting.specs.Escapes.{plain, hexDigit, hexEscape, shown, escaped}
+use Rattle.reporting.specs.Printable.{Printable, OneLine}
+use Rattle.reporting.proofs.Printable.{none, one, joined, printable, no, word, after, ending, newline}
 use Rattle.reporting.specs.Lines.{headOf, lineOf, anglesOf, heightOf, positionLineOf, stopOf, stopLineOf}
-
-unfoldable pub Each : List ℕ → Type 0
-Each [] = Unit {0}
-Each (b ∷ s) = ((0x20 ≤ b) × (b ≤ 0x7E)) × Each s
-
--- every byte is one from 0x20 to 0x7E
-pub record Printable (s : List ℕ) : Type 0 where
-  pub each : Each s
-
-each-joined : (s t : List ℕ) → Each s → Each t → Each (s ++ t)
-unfolding Each
-each-joined [] t p q = q
-each-joined (b ∷ s) t (p, ps) q = (p, each-joined s t ps q)
-
-pub joined : (s t : List ℕ) → Printable s → Printable t → Printable (s ++ t)
-joined s t p q = record { each = each-joined s t (p .each) (q .each) }
-
-none : Printable []
-unfolding Each
-none = record { each = tt }
-
-one : (b : ℕ) → 0x20 ≤ b → b ≤ 0x7E → Printable (b ∷ [])
-unfolding Each
-one b l h = record { each = ((l, h), tt) }
-
--- a test that computes, for the words of the lines
-unfoldable printable : List ℕ → Bool
-printable [] = true
-printable (b ∷ s) = cond (leb 0x20 b) (cond (leb b 0x7E) (printable s) false) false
 
 digit : (n : ℕ) → Printable (lastDigit n ∷ [])
 digit n = one (lastDigit n) (omega arith) (omega arith)
@@ -73,9 +46,6 @@ safe-hex d h = by-test (ltb d 10) refl
     by-test true e = let l = ltb-true d 10 e in (omega arith, omega arith)
     by-test false e = (omega arith, omega arith)
 
-no : {A : Type 0} → _≡_ {A = Bool} false true → A
-no e = absurd (let z : _≡_ {A = ℕ} 0 1 = cc in omega arith)
-
 plain-bounds : (b : ℕ) → plain b ≡ true → (0x20 ≤ b) × (b ≤ 0x7E)
 plain-bounds b = by-tests (eqb b 0x5C) (leb 0x20 b) refl
   where
@@ -100,34 +70,6 @@ pub safe-escaped : (s : List ℕ) → Bytes s → Printable (escaped s)
 unfolding escaped
 safe-escaped [] h = none
 safe-escaped (b ∷ s) (h, hs) = joined (shown b) (escaped s) (safe-shown b h) (safe-escaped s hs)
-
--- one line: printable bytes, and one newline behind them
-pub record OneLine (l : List ℕ) : Type 0 where
-  pub body : List ℕ
-  pub is : l ≡ body ++ ascii "\n"
-  pub printable : Printable body
-
--- a word of the page, by the test
-word : (s : List ℕ) → printable s ≡ true → Printable s
-unfolding printable
-word [] e = none
-word (b ∷ s) e = by-tests (leb 0x20 b) (leb b 0x7E) refl refl (word s) e
-  where
-    by-tests : (l m : Bool) → leb 0x20 b ≡ l → leb b 0x7E ≡ m → (printable s ≡ true → Printable s) → cond l (cond m (printable s) false) false ≡ true → Printable (b ∷ s)
-    by-tests true true p q rest h = joined (b ∷ []) s (one b (leb-true 0x20 b p) (leb-true b 0x7E q)) (rest h)
-    by-tests true false p q rest h = no h
-    by-tests false m p q rest h = no h
-
--- pieces in a row, the last of them the newline
-ending : (s t : List ℕ) → Printable s → OneLine t → OneLine (s ++ t)
-ending s t p o = record { body = s ++ o .body; is = ap (λ (x : List ℕ). s ++ x) (o .is) ∙ sym (append-assoc s (o .body) (ascii "\n")); printable = joined s (o .body) p (o .printable) }
-
-newline : OneLine (ascii "\n")
-newline = record { body = []; is = refl; printable = none }
-
--- a word of the page before what is printable
-after : (s t : List ℕ) → printable s ≡ true → Printable t → Printable (s ++ t)
-after s t e = joined s t (word s e)
 
 safe-head : (offset kind answer : ℕ) → Printable (headOf offset kind answer)
 unfolding headOf printable

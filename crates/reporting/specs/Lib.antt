@@ -3,3 +3,4 @@ pub mod Ascii
 pub mod Numbers
 pub mod Escapes
 pub mod Lines
+pub mod Printable

@@ -1,11 +1,11 @@
 -- The lines of a log's report. Assumes nothing.
-use Prim.Native.Nat.{ℕ, _+_, _*_}
+use Prim.Native.Nat.{ℕ, _+_, _*_, _≤_}
 use mathlib.Core.Path.{_≡_}
 use mathlib.Core.List.{List, _++_}
 use mathlib.Core.Bool.{cond}
 use lib.IntN.{ℤ}
 use lib.Dec.{leb}
-use lib.ListN.{length, drop}
+use lib.ListN.{length, take, drop}
 use Rattle.reporting.specs.Ascii.{ascii}
 use Rattle.reporting.specs.Numbers.{decimal, fixed}
 use Rattle.reporting.specs.Escapes.{escaped}
@@ -47,3 +47,7 @@ roomFor n = 256 + 4 * n
 pub record Line (n : ℕ) (text out out′ : List ℕ) (r : ℕ) : Type 0 where
   pub out-is : out′ ≡ cond (leb (roomFor n) (length out)) (text ++ drop (length text) out) out
   pub length-is : r ≡ cond (leb (roomFor n) (length out)) (length text) 0
+
+-- n bytes stand at the front of out: what a caller has to know who prints them
+abbrev pub AtFront : ℕ → List ℕ → Type 0
+AtFront n out = (n ≤ length out) × (n ≡ length (take n out))

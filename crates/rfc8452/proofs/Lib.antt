@@ -4,4 +4,5 @@ pub mod Cut
 pub mod Parts
 pub mod Reversed
 pub mod Sealing
+pub mod PolyvalCases
 pub mod Cases

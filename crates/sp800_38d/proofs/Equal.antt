@@ -16,7 +16,7 @@ use Rattle.gf2.proofs.Roots.{Elements}
 use Rattle.rfc8452.specs.Machine.{step, run, polyval}
 use Rattle.rfc8452.specs.Blocks.{blocksN, blocks}
 use Rattle.rfc8452.proofs.Cut.{number-zeros}
-use Rattle.sp800_38d.specs.Ghash.{ghashFrom, ghashOf, bits, bitBlocksN, bitBlocks}
+use Rattle.sp800_38d.specs.Ghash.{ghashFrom, ghashOf, bitString, bitBlocksN, bitBlocks}
 use Rattle.rfc8452.specs.AppendixA.{reversed, keyFor}
 use Rattle.rfc8452.proofs.Reversed.{reversed-lt}
 use Rattle.sp800_38d.proofs.Product.{product-is}
@@ -57,17 +57,17 @@ reversed-elements [] = tt
 reversed-elements (x ∷ xs) = (reversed-lt x, reversed-elements xs)
 
 -- the key's bits
-key-bits : (key : List ℕ) → Bytes key → length key ≡ 16 → bits key ≡ reversed (number key)
+key-bits : (key : List ℕ) → Bytes key → length key ≡ 16 → bitString key ≡ reversed (number key)
 key-bits key b long = ap (λ l. number (reverse l)) (sym (bytesOf-number key b) ∙ ap (λ n. bytesOf n (number key)) long)
 
 -- what a record that start has made holds after s is SP 800-38D's value, and further feeds go on from it
 pub ghash-fed : (key s : List ℕ) (y : ℕ) → Bytes key → length key ≡ 16 → Bytes s → y < 2 ^ 128
-    → run (keyFor key) y (map reversed (blocks s)) ≡ ghashFrom (bits key) y (bitBlocks s)
+    → run (keyFor key) y (map reversed (blocks s)) ≡ ghashFrom (bitString key) y (bitBlocks s)
 ghash-fed key s y bk long bs ly =
     let h : ℕ = reversed (number key) in
     sym (ghash-run h y (map reversed (blocks s)) (reversed-lt (number key)) ly (reversed-elements (blocks s)))
     ∙ ap₂ (λ k xs. ghashFrom k y xs) (sym (key-bits key bk long)) (sym (bit-blocks s bs))
 
 -- the theorem: the POLYVAL form is GHASH
-pub ghash-is : (key s : List ℕ) → Bytes key → length key ≡ 16 → Bytes s → polyval (keyFor key) (map reversed (blocks s)) ≡ ghashOf (bits key) (bitBlocks s)
+pub ghash-is : (key s : List ℕ) → Bytes key → length key ≡ 16 → Bytes s → polyval (keyFor key) (map reversed (blocks s)) ≡ ghashOf (bitString key) (bitBlocks s)
 ghash-is key s bk long bs = ghash-fed key s 0 bk long bs (pow-pos 128)

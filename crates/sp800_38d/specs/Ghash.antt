@@ -32,13 +32,13 @@ abbrev pub ghashOf : (h : ℕ) → List ℕ → ℕ
 ghashOf h xs = ghashFrom h 0 xs
 
 -- bytes as such a number: the first byte is the leftmost
-abbrev pub bits : List ℕ → ℕ
-bits s = number (reverse s)
+abbrev pub bitString : List ℕ → ℕ
+bitString s = number (reverse s)
 
 -- the blocks of a string, the last one filled with zeros on its right
 unfoldable pub bitBlocksN : ℕ → List ℕ → List ℕ
 bitBlocksN zero s = []
-bitBlocksN (suc n) s = bits (take 16 s ++ replicate (16 - length (take 16 s)) 0) ∷ bitBlocksN n (drop 16 s)
+bitBlocksN (suc n) s = bitString (take 16 s ++ replicate (16 - length (take 16 s)) 0) ∷ bitBlocksN n (drop 16 s)
 
 unfoldable pub bitBlocks : List ℕ → List ℕ
 bitBlocks s = bitBlocksN ((length s + 15) / 16) s

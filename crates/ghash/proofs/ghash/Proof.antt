@@ -4,7 +4,7 @@ use Prim.Native.Nat.{_%_}
 use lib.ListN.{length, replicate}
 use borrow.Author.Tests.{eq-eqb, ne-eqb}
 use Rattle.answer.specs.Answers.{done}
-use Rattle.ghash.specs.Calls.{fedOf, tagOf}
+use Rattle.ghash.specs.Calls.{fedOf, ghashTagOf}
 use Rattle.ghash.proofs.Call.{start-refused, not-whole, hashed}
 use borrow.Author.Needs.{needs}
 use Rattle.ghash.proofs.ghash.Statement.{statement}
@@ -36,7 +36,7 @@ returns-3 : tie.Need-returns-3
 returns-3 c =
     let a = c .before .before .before .before .before .before .before .before .before .args in
     let s = c .before .before .before .before .before .before .start in
-    let tag = c .finish .ensures ∙ ap tagOf (c .before .feed-padded .ensures ∙ ap (λ r. fedOf (r .ghash) (a .blocks .now)) (s .ensures)) in
+    let tag = c .finish .ensures ∙ ap ghashTagOf (c .before .feed-padded .ensures ∙ ap (λ r. fedOf (r .ghash) (a .blocks .now)) (s .ensures)) in
     (λ i. record { answer = done; tag = tag i })
     ∙ hashed (a .key .now) (a .blocks .now) (sym (ap (λ r. r .answer) (s .ensures)) ∙ c .before .before .before .before .if1 .left) (eq-eqb (length (a .blocks .now) % 16) 0 (c .before .before .before .if2 .left))
 
