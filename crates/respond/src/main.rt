@@ -22,7 +22,7 @@ ghost use mathlib.Core.Path.{_≡_};
 ghost use lib.ListN.{length};
 
 // The bytes of a stored key: each power of H and its D value.
-const KEY: usize = 32 * polyval::key::POWERS;
+const KEY: usize = 32 * feeding::POWERS;
 
 // The longest line that is a request.
 fn line_buffer() -> [u8; 300000]
