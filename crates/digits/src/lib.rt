@@ -60,17 +60,11 @@ fn byte_of(high: u8, low: u8) -> u8
     hex_digit(high) % 16 * 16 + hex_digit(low) % 16
 }
 
-fn least(a: usize, b: usize) -> usize
-    ensures { λ r. ⌜ r ≡ min a b ⌝ }
-{
-    if a < b { a } else { b }
-}
-
 // Puts the bytes that s spells at the front of out, as many as there is room for, and answers how many.
 pub fn from_hex(s: &[u8], out: &mut [u8]) -> usize
     ensures { λ r. ⌜ Put r (min (length (now (s .entry)) / 2) (length (now (out .entry)))) (spelled (now (s .entry))) (now (out .entry)) (now (out .exit)) ⌝ }
 {
-    let n = least(s.len() / 2, out.len());
+    let n = octets::shorter(s.len() / 2, out.len());
     let mut i = 0;
     while i < n {
         out[i] = byte_of(s[2 * i], s[2 * i + 1]);
@@ -83,7 +77,7 @@ pub fn from_hex(s: &[u8], out: &mut [u8]) -> usize
 pub fn to_hex(s: &[u8], out: &mut [u8]) -> usize
     ensures { λ r. ⌜ Put r (2 * min (length (now (s .entry))) (length (now (out .entry)) / 2)) (spelling (now (s .entry))) (now (out .entry)) (now (out .exit)) ⌝ }
 {
-    let n = least(s.len(), out.len() / 2);
+    let n = octets::shorter(s.len(), out.len() / 2);
     let mut i = 0;
     while i < n {
         let b = s[i];

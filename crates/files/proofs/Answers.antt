@@ -3,14 +3,11 @@ use Prim.Native.Nat.{ℕ}
 use mathlib.Core.Path.{_≡_}
 use mathlib.Core.Bool.{false}
 use mathlib.Core.List.{List}
-use native.Mathlib.Omega.{arith}
 use lib.IntN.{ℤ, pos, negsuc}
 use lib.Signed.{ltZ}
 use Rattle.io.specs.Counts.{Counts}
 use Rattle.files.specs.Files.{Opened, Read}
-
-no : {A : Type 0} → _≡_ {A = ℕ} 0 1 → A
-no e = absurd (omega arith)
+use Rattle.logic.proofs.Tests.{no}
 
 -- what is not below 0 is a descriptor
 pub not-negative : (z : ℤ) → ltZ z (pos 0) ≡ false → Opened z

@@ -14,6 +14,7 @@ use mir.Val.{toZ, ofZ, SFits, Fits}
 use mir.Facts.{toZ-pos, toZ-ofZ}
 use Rattle.framing.specs.Signed.{signed, bitsOf}
 use Rattle.framing.specs.Position.{within}
+use Rattle.logic.proofs.Tests.{no}
 
 minus-one : (y : ℕ) → negsuc 0 -ℤ pos y ≡ negsuc y
 minus-one zero = refl
@@ -44,9 +45,6 @@ record Neg (z : ℤ) : Type 0 where
 
 minus : (k : ℕ) → negsuc 0 -ℤ negsuc k ≡ pos k
 minus k = simp (le-ltb (suc k) 1 (omega arith)) (ap pos (omega arith))
-
-no : {A : Type 0} → _≡_ {A = Bool} false true → A
-no e = absurd (let z : _≡_ {A = ℕ} 0 1 = cc in omega arith)
 
 neg : (z : ℤ) → SFits w32 z → ltZ (toZ w32 (ofZ w32 z)) (pos 0) ≡ true → Neg z
 neg (pos n) f e = no (sym (ap (λ (x : ℤ). ltZ x (pos 0)) (toZ-ofZ f) ∙ le-ltb n 0 (omega arith)) ∙ e)

@@ -3,7 +3,6 @@ use Prim.Native.Nat.{ℕ}
 use mathlib.Core.Path.{_≡_, refl, sym, ap, _∙_}
 use mathlib.Core.Bool.{Bool, true, false, cond}
 use mathlib.Core.List.{List}
-use native.Mathlib.Omega.{arith}
 use borrow.Author.Tests.{eqb-true, eqb-false}
 use lib.Dec.{eqb}
 use lib.ListN.{length}
@@ -16,9 +15,7 @@ use Rattle.messaging.specs.declared.Message.{Message}
 use Rattle.messaging.specs.declared.Message.the-variants as message
 use Rattle.messaging.specs.Message.{contentAnswer, messageOf, valuesOf}
 use Rattle.messaging.specs.Read.{orRefused}
-
-no : {A : Type 0} → _≡_ {A = ℕ} 0 1 → A
-no e = absurd (omega arith)
+use Rattle.logic.proofs.Tests.{no}
 
 -- a message that is not refused answers 0, and no other does
 pub not-refused : (a : ℕ) (m r : Message) → r ≡ orRefused a m → valuesOf r .answer ≡ 0 → (a ≡ 0) × (r ≡ m)

@@ -2,7 +2,7 @@
 use Prim.Native.Nat.{ℕ, _/_, _^_, _≤_}
 use mathlib.Core.Path.{_≡_, refl, sym, ap, _∙_}
 use mathlib.Core.List.{[], _++_, append-assoc}
-use mathlib.Core.Bool.{Bool, true, false}
+use mathlib.Core.Bool.{true, false}
 use native.Mathlib.Omega.{arith}
 use borrow.Author.Tests.{le-ltb}
 use lib.IntN.{ℤ, pos, negsuc, natAbs}
@@ -12,6 +12,7 @@ use mir.Val.{toZ, ofZ, SFits}
 use mir.Facts.{toZ-ofZ}
 use Rattle.reporting.specs.Ascii.{ascii}
 use Rattle.reporting.specs.Numbers.{digits, decimal, sign, inPlaces, fixed}
+use Rattle.logic.proofs.Tests.{no}
 
 -- a signed word is at most 2^31 away from 0
 pub magnitude-fits : (z : ℤ) → SFits w32 z → natAbs z ≤ 2 ^ 31
@@ -19,9 +20,6 @@ magnitude-fits (pos n) f = omega (arith, f .sfits)
 magnitude-fits (negsuc n) f = omega (arith, f .sfits)
 
 -- the sign, by the test of the bits
-
-no : {A : Type 0} → _≡_ {A = Bool} false true → A
-no e = absurd (let z : _≡_ {A = ℕ} 0 1 = cc in omega arith)
 
 below : (z : ℤ) → ltZ z (pos 0) ≡ true → ascii "-" ≡ sign z
 below (pos n) e = no (sym (le-ltb n 0 (omega arith)) ∙ e)

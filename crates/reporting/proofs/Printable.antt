@@ -3,11 +3,11 @@ use Prim.Native.Nat.{ℕ, _≤_}
 use mathlib.Core.Path.{_≡_, refl, sym, ap, _∙_}
 use mathlib.Core.List.{List, [], _∷_, _++_, append-assoc}
 use mathlib.Core.Bool.{Bool, true, false, cond}
-use native.Mathlib.Omega.{arith}
 use borrow.Author.Tests.{leb-true}
 use lib.Dec.{leb}
 use Rattle.reporting.specs.Ascii.{ascii}
 use Rattle.reporting.specs.Printable.{Each, Printable, OneLine}
+use Rattle.logic.proofs.Tests.{no}
 
 each-joined : (s t : List ℕ) → Each s → Each t → Each (s ++ t)
 unfolding Each
@@ -24,9 +24,6 @@ none = record { each = tt }
 pub one : (b : ℕ) → 0x20 ≤ b → b ≤ 0x7E → Printable (b ∷ [])
 unfolding Each
 one b l h = record { each = ((l, h), tt) }
-
-pub no : {A : Type 0} → _≡_ {A = Bool} false true → A
-no e = absurd (let z : _≡_ {A = ℕ} 0 1 = cc in omega arith)
 
 -- a test that computes, for the words of the lines
 unfoldable pub printable : List ℕ → Bool

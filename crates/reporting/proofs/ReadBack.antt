@@ -10,6 +10,7 @@ use lib.Dec.{ltb, leb, eqb}
 use lib.ListN.{length, getD, drop}
 use Rattle.octets.proofs.Numbers.{Bytes}
 use Rattle.reporting.specs.Escapes.{plain, hexDigit, hexEscape, shown, escaped}
+use Rattle.logic.proofs.Tests.{no}
 
 unfoldable hexValue : ℕ → ℕ
 hexValue c = cond (ltb c 58) (c - 48) (c - 87)
@@ -27,9 +28,6 @@ hex-back d h = by-test (ltb d 10) refl
     by-test : (b : Bool) → ltb d 10 ≡ b → cond (ltb (cond b (48 + d) (87 + d)) 58) (cond b (48 + d) (87 + d) - 48) (cond b (48 + d) (87 + d) - 87) ≡ d
     by-test true e = let l = ltb-true d 10 e in simp (lt-ltb (48 + d) 58 (omega arith)) (omega arith)
     by-test false e = let l = ltb-false d 10 e in simp (le-ltb (87 + d) 58 (omega arith)) (omega arith)
-
-no : {A : Type 0} → _≡_ {A = Bool} false true → A
-no e = absurd (let z : _≡_ {A = ℕ} 0 1 = cc in omega arith)
 
 -- the backslash itself is not plain
 plain-other : (b : ℕ) → plain b ≡ true → eqb b 0x5C ≡ false

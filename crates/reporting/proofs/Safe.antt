@@ -13,7 +13,8 @@ use Rattle.reporting.specs.Ascii.{ascii}
 use Rattle.reporting.specs.Numbers.{lastDigit, digits, digitCount, decimal, sign, inPlaces, fixed}
 use Rattle.reporting.specs.Escapes.{plain, hexDigit, hexEscape, shown, escaped}
 use Rattle.reporting.specs.Printable.{Printable, OneLine}
-use Rattle.reporting.proofs.Printable.{none, one, joined, printable, no, word, after, ending, newline}
+use Rattle.logic.proofs.Tests.{no}
+use Rattle.reporting.proofs.Printable.{none, one, joined, printable, word, after, ending, newline}
 use Rattle.reporting.specs.Lines.{headOf, lineOf, anglesOf, heightOf, positionLineOf, stopOf, stopLineOf}
 
 digit : (n : ℕ) → Printable (lastDigit n ∷ [])

@@ -17,13 +17,13 @@ Inv-loop s out₀ n i₀ out i = (i ≤ n) × (n ≡ min (length s / 2) (length 
 abbrev μ-loop : tie.MeasureT-loop
 μ-loop s out₀ n i₀ out i = n - i
 
-least-requires : tie.Need-least-requires Inv-loop μ-loop
-least-requires c κs = search needs
+shorter-requires : tie.Need-shorter-requires Inv-loop μ-loop
+shorter-requires c κs = search needs
 
 loop-holds : tie.Need-loop-holds Inv-loop μ-loop
 loop-holds c =
     let a = c .before .before .before .args in
-    (search needs, c .least .ensures, paste-zero (a .out .now) 0 (spelled (a .s .now)), refl)
+    (search needs, c .shorter .ensures, paste-zero (a .out .now) 0 (spelled (a .s .now)), refl)
 
 mul-byte-of : tie.Need-mul-byte-of Inv-loop μ-loop
 mul-byte-of c = search needs
@@ -75,7 +75,7 @@ from-hex-spec =
     (tie.spec
     Inv-loop
     μ-loop
-    least-requires
+    shorter-requires
     loop-holds
     mul-byte-of
     shared-slice-read-byte-of

@@ -17,13 +17,13 @@ Inv-loop s out₀ n i₀ out i = (i ≤ n) × (n ≡ min (length s) (length out�
 abbrev μ-loop : tie.MeasureT-loop
 μ-loop s out₀ n i₀ out i = n - i
 
-least-requires : tie.Need-least-requires Inv-loop μ-loop
-least-requires c κs = search needs
+shorter-requires : tie.Need-shorter-requires Inv-loop μ-loop
+shorter-requires c κs = search needs
 
 loop-holds : tie.Need-loop-holds Inv-loop μ-loop
 loop-holds c =
     let a = c .before .before .before .args in
-    (search needs, c .least .ensures, paste-zero (a .out .now) 0 (spelling (a .s .now)), refl)
+    (search needs, c .shorter .ensures, paste-zero (a .out .now) 0 (spelling (a .s .now)), refl)
 
 shared-slice-read-b : tie.Need-shared-slice-read-b Inv-loop μ-loop
 shared-slice-read-b c = search needs
@@ -87,7 +87,7 @@ to-hex-spec =
     (tie.spec
     Inv-loop
     μ-loop
-    least-requires
+    shorter-requires
     loop-holds
     shared-slice-read-b
     hex-letter-requires
