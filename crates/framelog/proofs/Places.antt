@@ -5,9 +5,10 @@ use mathlib.Core.Bool.{Bool, true, false, cond}
 use mathlib.Core.List.{List}
 use native.Mathlib.Omega.{arith}
 use borrow.Author.Tests.{le-leb, eqb-false}
-use lib.Dec.{eqb}
+use lib.Dec.{eqb, leb→le}
 use lib.ListN.{length, take, drop, length-drop}
 use lib.Seq.{length-take-le}
+use Rattle.framing.specs.Kinds.{table, maxFramePlaintext, longestFrame}
 use Rattle.window.specs.declared.Step.the-variants.{More}
 use Rattle.window.specs.Step.{stepOf}
 use Rattle.window.proofs.InPieces.{more-has-room, last-decides}
@@ -76,6 +77,11 @@ some-left left held e = by-test (eqb left 0) refl
     by-test : (b : Bool) → eqb left 0 ≡ b → 0 < left
     by-test true z = absurd (last-decides held (ap (λ (b : Bool). stepOf b held) (sym z) ∙ sym e))
     by-test false z = pos-of left (eqb-false left 0 z)
+
+-- the window holds the longest frame
+pub window-holds : longestFrame ≤ 4096
+unfolding maxFramePlaintext table
+window-holds = leb→le longestFrame 4096 tt
 
 -- what is held where more is asked for is less than the longest frame, and so than the window
 pub has-room : (p : Place) (window : List ℕ) (last : Bool) → Sound p (length window)

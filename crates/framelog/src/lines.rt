@@ -6,7 +6,7 @@ ghost use mathlib.Core.Path.{_≡_};
 ghost use lib.ListN.{length};
 ghost use Rattle.reporting.specs.Lines.{AtFront};
 ghost use Rattle.framing.specs.declared.Front.the-variants.{Whole};
-ghost use Rattle.frame.specs.Kinds.{maxFramePlaintext};
+ghost use Rattle.framing.specs.Kinds.{maxFramePlaintext};
 ghost use Rattle.framing.specs.Front.{frontOf};
 
 // Room for the plaintext of any frame.

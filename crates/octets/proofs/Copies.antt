@@ -6,7 +6,7 @@ use native.Mathlib.Nat.{not-suc-le-zero, le-of-suc-le-suc, zero-add, min-comm}
 use native.Mathlib.Omega.{arith}
 use native.Mathlib.Numerals.{add-one}
 use lib.ListN.{length, getD, set, take, drop, length-take, length-drop, drop-of-length-le}
-use lib.Seq.{take-all, length-take-le, drop-drop, paste}
+use lib.Seq.{take-all, length-take-le, drop-drop, paste, paste-zero}
 use Rattle.octets.specs.Places.{placed, over}
 use Rattle.octets.specs.Strings.{copied}
 use Rattle.octets.proofs.Parts.{part-rest, part-home, take-front}
@@ -46,24 +46,28 @@ pub paste-placed : (d : List ℕ) (at : ℕ) (s : List ℕ) (n : ℕ) → n ≤ 
 paste-placed d at s n h =
     append-assoc (take at d) (take n s) (drop (at + n) d) ∙ ap (λ k. take at d ++ (take n s ++ drop (at + k) d)) (sym (length-take-le n s h))
 
--- s copied over the end of d that starts at a place, as code lends that end and takes it back
-module _ (s d : List ℕ) (at : ℕ) where
-  back : {part : List ℕ} → part ≡ copied s (take (length d - at) (drop at d)) → take at d ++ (part ++ drop (length d - at) (drop at d)) ≡ take at d ++ copied s (drop at d)
+-- s copied over the end of d that starts at a place, as code lends that end, of n - at bytes, and takes it back
+module _ (s d : List ℕ) (at : ℕ) {n : ℕ} (whole : length d ≡ n) where
+  back : {part : List ℕ} → part ≡ copied s (take (n - at) (drop at d)) → take at d ++ (part ++ drop (n - at) (drop at d)) ≡ take at d ++ copied s (drop at d)
   back {part} e =
-      part-home at d part ∙ ap (λ (l : List ℕ). take at d ++ l) (e ∙ ap (copied s) (part-rest at d))
+      ap (λ k. take at d ++ (part ++ drop (k - at) (drop at d))) (sym whole) ∙ part-home at d part
+      ∙ ap (λ (l : List ℕ). take at d ++ l) (e ∙ ap (λ k. copied s (take (k - at) (drop at d))) (sym whole) ∙ ap (copied s) (part-rest at d))
 
   -- with room for all of it
-  pub copied-at : {part : List ℕ} → at + length s ≤ length d → part ≡ copied s (take (length d - at) (drop at d))
-      → take at d ++ (part ++ drop (length d - at) (drop at d)) ≡ placed d at s
+  pub copied-at : {part : List ℕ} → at + length s ≤ n → part ≡ copied s (take (n - at) (drop at d)) → take at d ++ (part ++ drop (n - at) (drop at d)) ≡ placed d at s
   copied-at h e =
       back e ∙ ap (λ (l : List ℕ). take at d ++ l)
       (copied-fits s (drop at d) (rw length-drop (omega arith)) ∙ ap (λ (l : List ℕ). s ++ l) (drop-drop (length s) at d))
 
   -- as much of it as there is room for
-  pub copied-within : {part : List ℕ} → part ≡ copied s (take (length d - at) (drop at d))
-      → take at d ++ (part ++ drop (length d - at) (drop at d)) ≡ paste d at s (min (length s) (length d - at))
+  pub copied-within : {part : List ℕ} → part ≡ copied s (take (n - at) (drop at d))
+      → take at d ++ (part ++ drop (n - at) (drop at d)) ≡ paste d at s (min (length s) (n - at))
   copied-within e =
-      let n : ℕ = min (length s) (length d - at) in
-      let room : n ≡ min (length s) (length (drop at d)) = ap (min (length s)) (sym (length-drop at d)) in
-      back e ∙ ap (λ (l : List ℕ). take at d ++ l) (sym (copy-reached n s (drop at d) room) ∙ ap (λ (l : List ℕ). take n s ++ l) (drop-drop n at d))
-      ∙ sym (append-assoc (take at d) (take n s) (drop (at + n) d))
+      let k : ℕ = min (length s) (n - at) in
+      let room : k ≡ min (length s) (length (drop at d)) = ap (min (length s)) (ap (λ m. m - at) (sym whole) ∙ sym (length-drop at d)) in
+      back e ∙ ap (λ (l : List ℕ). take at d ++ l) (sym (copy-reached k s (drop at d) room) ∙ ap (λ (l : List ℕ). take k s ++ l) (drop-drop k at d))
+      ∙ sym (append-assoc (take at d) (take k s) (drop (at + k) d))
+
+  -- where the place is behind the end there is room for nothing
+  pub copied-nowhere : n ≤ at → d ≡ paste d at s (min (length s) (n - at))
+  copied-nowhere h = let none : 0 ≡ min (length s) (n - at) = omega arith in paste-zero d at s ∙ ap (paste d at s) none

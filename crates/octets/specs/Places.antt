@@ -1,5 +1,4 @@
--- Bytes over a buffer: at a place, at the front, as much of them as fits. What a call leaves in a lent buffer is said by these.
--- Assumes nothing.
+-- Bytes over a buffer, at a place and at the front: what a call leaves in a lent buffer is said by these. Assumes nothing.
 use Prim.Native.Nat.{ℕ, _+_}
 use mathlib.Core.Path.{_≡_}
 use mathlib.Core.Bool.{Bool, cond}

@@ -1,4 +1,4 @@
--- Laws of the definitions.
+-- Laws of the definitions, and small cases of them computed.
 pub mod Run
 pub mod Cut
 pub mod Parts

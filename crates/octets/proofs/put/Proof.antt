@@ -11,7 +11,7 @@ returns : tie.Need-returns
 returns c =
     let copied = c .before .before in
     let a = copied .before .before .before .before .before .before .args in
-    wrote-put (omega arith) (record { out-is = copied-at (a .s .now) (a .out .now) (a .at) (omega arith) (copied .copy .ensures); next-is = refl })
+    wrote-put (omega arith) (record { out-is = copied-at (a .s .now) (a .out .now) (a .at) refl (omega arith) (copied .copy .ensures); next-is = refl })
 
 returns-2 : tie.Need-returns-2
 returns-2 c = no-room _ _ _ (omega arith)

@@ -3,6 +3,7 @@ use mathlib.Core.Path.{_≡_, sym, _∙_, subst}
 use borrow.Author.Needs.{needs}
 use native.Mathlib.Omega.{arith}
 use lib.ListN.{length}
+use Rattle.framelog.proofs.Places.{window-holds}
 use Rattle.framelog.specs.Place.{Sound, budget}
 use Rattle.framelog.proofs.walk.walk.Statement.{statement}
 use Rattle.framelog.proofs.walk.walk.Tie as tie
@@ -14,7 +15,7 @@ abbrev μ-loop : tie.MeasureT-loop
 μ-loop fd path key len window₀ p₀ window p = budget p
 
 loop-holds : tie.Need-loop-holds Inv-loop μ-loop
-loop-holds c = (sym (c .buffer .ensures), record { forwards = omega arith; within = omega arith; longest = omega arith; log = omega arith; counted = omega arith })
+loop-holds c = (sym (c .buffer .ensures), record { forwards = omega arith; within = omega arith; longest = window-holds; log = omega arith; counted = omega arith })
 
 loop-less : tie.Need-loop-less Inv-loop μ-loop
 loop-less c = c .before .turn .ensures .1
