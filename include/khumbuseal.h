@@ -3,7 +3,7 @@
    Link with libkhumbuseal.a (`rt staticlib khumbuseal`), which is made for x86-64 Linux. It calls nothing but C's
    memcpy, allocates nothing and keeps nothing between calls: two threads may call it at once on different memory.
    docs/BENCH.md says how much stack each call needs, about 4 KiB at the most. Each function is proved to meet a contract that
-   fixes its result and every byte it may write (docs/PROMISES.md, khumbuseal); that this header declares the same
+   fixes its result and every byte it may write (crates/khumbuseal/README.md); that this header declares the same
    functions is not proved (docs/TRUST.md).
 
    ANSWERS. Where a function answers, its result is 0 (done) or the number of the first reason to refuse, in the
