@@ -10,7 +10,7 @@ use Rattle.octets.specs.Numbers.{number, bytesOf}
 use Rattle.answer.specs.Answers.{notAFrame, unknownKind, lengthForKind, cutShort}
 use Rattle.framing.specs.declared.Front.the-variants.{Whole, Stop}
 use Rattle.framing.specs.Position.{inRange, positionOf, positionBytes}
-use Rattle.framing.specs.Kinds.{position, text, checkIn, table, rowOf, isKnown, isAllowed, maxFramePlaintext}
+use Rattle.framing.specs.Kinds.{position, text, checkIn, row, holds, table, rowOf, isKnown, isAllowed, maxFramePlaintext}
 use Rattle.framing.specs.Front.{mark, checks, frontOf}
 use Rattle.framing.specs.Scan.{none, scanFrom, scanOf}
 use Rattle.framing.proofs.Fronts.{wrong-mark, wrong-kind, wrong-length, no-end, whole}
@@ -32,6 +32,10 @@ text-lengths = refl
 pub check-in-lengths : map (isAllowed checkIn) (0 ∷ 15 ∷ 16 ∷ 17 ∷ []) ≡ false ∷ false ∷ true ∷ false ∷ []
 unfolding isAllowed rowOf table
 check-in-lengths = refl
+
+-- a row's lengths go by its step, from its least to its greatest
+pub stepped-lengths : map (holds (row 0 16 48 16)) (0 ∷ 15 ∷ 16 ∷ 17 ∷ 32 ∷ 47 ∷ 48 ∷ 49 ∷ 64 ∷ []) ≡ false ∷ false ∷ true ∷ false ∷ true ∷ false ∷ true ∷ false ∷ false ∷ []
+stepped-lengths = refl
 
 pub no-lengths : map (isAllowed 4) (16 ∷ 32 ∷ []) ≡ false ∷ false ∷ []
 unfolding isAllowed rowOf table

@@ -38,7 +38,7 @@ both : (a b : Bool) → (a && b) ≡ true → (a ≡ true) × (b ≡ true)
 both true b e = (refl, e)
 both false b e = absurd (let z : _≡_ {A = ℕ} 0 1 = cc in omega arith)
 
--- the row that a search finds has every property that all rows have
+-- so has the row that a search finds
 found-step : (x r : Kind) (rest : Found) (b : Bool) → 0 < x .step → (rest ≡ Row r → 0 < r .step) → cond b (Row x) rest ≡ Row r → 0 < r .step
 found-step x r rest true h later e = let same : x .step ≡ r .step = cc in omega arith
 found-step x r rest false h later e = later e
