@@ -7,7 +7,9 @@
 static unsigned char stack[65536] __attribute__((aligned(16)));
 static unsigned char *before; /* the stack pointer before the call */
 
-static uint8_t key[32], nonce[12], ad[256], text[4096], sealed[4112], out[4112], frame[192], first[168], second[168], third[168], ghash[32], tag[16];
+static uint8_t key[32], nonce[KHUMBUSEAL_NONCE_SIZE], ad[KHUMBUSEAL_MAX_AD], text[KHUMBUSEAL_MAX_PLAINTEXT], sealed[KHUMBUSEAL_MAX_SEALED], out[KHUMBUSEAL_MAX_SEALED];
+static uint8_t frame[KHUMBUSEAL_MAX_FRAME], first[KHUMBUSEAL_RECORD_SIZE], second[KHUMBUSEAL_RECORD_SIZE], third[KHUMBUSEAL_RECORD_SIZE];
+static uint8_t ghash[KHUMBUSEAL_GHASH_RECORD_SIZE], tag[KHUMBUSEAL_TAG_SIZE];
 static uint64_t count;
 static size_t frame_len, len, taken;
 static uint8_t kind;
@@ -21,18 +23,18 @@ static uint32_t time_of;
         call; \
         __asm__ volatile("" ::: "memory"); \
     }
-CALL(seal, khumbuseal_seal(key, 32, nonce, 12, ad, 256, text, 4096, sealed, 4112))
-CALL(open, khumbuseal_open(key, 32, nonce, 12, ad, 256, sealed, 4112, out, 4112))
-CALL(frame_write, khumbuseal_frame_write(KHUMBUSEAL_TEXT, key, 32, nonce, 12, text, 160, frame, sizeof frame, &frame_len))
-CALL(frame_read, khumbuseal_frame_read(key, 32, frame, frame_len, out, sizeof out, &kind, &len, &taken, &lat, &lon, &alt, &time_of))
-CALL(hash_start, khumbuseal_hash_start(first, key, 16, &count))
-CALL(hash_feed_blocks, khumbuseal_hash_feed_blocks(first, KHUMBUSEAL_RF, text, 4096, &count))
-CALL(hash_feed_padded, khumbuseal_hash_feed_padded(first, KHUMBUSEAL_RF, text, 4095, &count))
-CALL(hash_feed_piece, khumbuseal_hash_feed_piece(second, KHUMBUSEAL_RF, text, 4095, &count))
+CALL(seal, khumbuseal_seal(key, sizeof key, nonce, sizeof nonce, ad, sizeof ad, text, sizeof text, sealed, sizeof sealed))
+CALL(open, khumbuseal_open(key, sizeof key, nonce, sizeof nonce, ad, sizeof ad, sealed, sizeof sealed, out, sizeof out))
+CALL(frame_write, khumbuseal_frame_write(KHUMBUSEAL_TEXT, key, sizeof key, nonce, sizeof nonce, text, KHUMBUSEAL_MAX_FRAME_PLAINTEXT, frame, sizeof frame, &frame_len))
+CALL(frame_read, khumbuseal_frame_read(key, sizeof key, frame, frame_len, out, sizeof out, &kind, &len, &taken, &lat, &lon, &alt, &time_of))
+CALL(hash_start, khumbuseal_hash_start(first, key, KHUMBUSEAL_HASH_KEY_SIZE, &count))
+CALL(hash_feed_blocks, khumbuseal_hash_feed_blocks(first, KHUMBUSEAL_RF, text, sizeof text, &count))
+CALL(hash_feed_padded, khumbuseal_hash_feed_padded(first, KHUMBUSEAL_RF, text, sizeof text - 1, &count))
+CALL(hash_feed_piece, khumbuseal_hash_feed_piece(second, KHUMBUSEAL_RF, text, sizeof text - 1, &count))
 CALL(hash_finish, khumbuseal_hash_finish(second, KHUMBUSEAL_RF, tag, &count))
 CALL(hash_join, khumbuseal_hash_join(first, third, ~(uint64_t)0, &count))
 CALL(hash_key_belongs, khumbuseal_hash_key_belongs(first))
-CALL(ghash_feed_padded, khumbuseal_ghash_feed_padded(ghash, text, 4095))
+CALL(ghash_feed_padded, khumbuseal_ghash_feed_padded(ghash, text, sizeof text - 1))
 
 static void measure(const char *name, void (*call)(void)) {
     size_t i = 0;
@@ -49,9 +51,9 @@ static void measure(const char *name, void (*call)(void)) {
 #define MEASURE(name) measure(#name, name)
 int main(void) {
     hash_start();
-    khumbuseal_hash_start(second, key, 16, &count);
-    khumbuseal_hash_start(third, key, 16, &count);
-    khumbuseal_ghash_start(ghash, key, 16);
+    khumbuseal_hash_start(second, key, KHUMBUSEAL_HASH_KEY_SIZE, &count);
+    khumbuseal_hash_start(third, key, KHUMBUSEAL_HASH_KEY_SIZE, &count);
+    khumbuseal_ghash_start(ghash, key, KHUMBUSEAL_HASH_KEY_SIZE);
     seal();
     frame_write();
     MEASURE(seal);

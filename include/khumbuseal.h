@@ -36,11 +36,11 @@ extern "C" {
 #define KHUMBUSEAL_NONCE_LENGTH 2     /* nonce not 12 bytes */
 #define KHUMBUSEAL_NOT_WHOLE_BLOCKS 3 /* length not a multiple of 16 */
 #define KHUMBUSEAL_AD_TOO_LONG 4      /* associated data over KHUMBUSEAL_MAX_AD */
-#define KHUMBUSEAL_TEXT_TOO_LONG 5    /* plaintext over KHUMBUSEAL_MAX_PLAINTEXT, or sealed part over that and 16 */
+#define KHUMBUSEAL_TEXT_TOO_LONG 5    /* plaintext over KHUMBUSEAL_MAX_PLAINTEXT, or sealed part over KHUMBUSEAL_MAX_SEALED */
 #define KHUMBUSEAL_SEALED_TOO_SHORT 6 /* sealed part under 16 bytes */
 #define KHUMBUSEAL_NO_ROOM 7          /* output too small */
 #define KHUMBUSEAL_TAG_DIFFERS 8      /* not what was sealed: key, nonce, associated data or a byte differs */
-#define KHUMBUSEAL_NOT_A_FRAME 9      /* first byte not 0x4B */
+#define KHUMBUSEAL_NOT_A_FRAME 9      /* first byte not KHUMBUSEAL_MARK */
 #define KHUMBUSEAL_UNKNOWN_KIND 10    /* no such kind of frame */
 #define KHUMBUSEAL_LENGTH_FOR_KIND 11 /* length not allowed for the kind */
 #define KHUMBUSEAL_CUT_SHORT 12       /* the frame is cut short */
@@ -48,15 +48,19 @@ extern "C" {
 #define KHUMBUSEAL_BAD_RECORD 14      /* more than 15 pending bytes claimed, pending bytes where none may be, or unlike keys */
 
 /* Sizes and limits. */
-#define KHUMBUSEAL_RECORD_SIZE 168       /* a hash record */
-#define KHUMBUSEAL_GHASH_RECORD_SIZE 32  /* a GHASH record */
-#define KHUMBUSEAL_TAG_SIZE 16           /* a hash or a tag */
+#define KHUMBUSEAL_RECORD_SIZE 168         /* a hash record */
+#define KHUMBUSEAL_STORED_KEY_SIZE 128     /* the stored key, at the front of a hash record */
+#define KHUMBUSEAL_GHASH_RECORD_SIZE 32    /* a GHASH record */
+#define KHUMBUSEAL_HASH_KEY_SIZE 16        /* a key of hashing; a key of sealing has 16 or 32 bytes */
+#define KHUMBUSEAL_TAG_SIZE 16             /* a hash or a tag */
 #define KHUMBUSEAL_NONCE_SIZE 12
-#define KHUMBUSEAL_POSITION_SIZE 16      /* the plaintext of a position frame */
-#define KHUMBUSEAL_FRAME_OVERHEAD 32     /* what a frame has besides its plaintext: 16 in front and the tag */
 #define KHUMBUSEAL_MAX_AD 256
 #define KHUMBUSEAL_MAX_PLAINTEXT 4096
-#define KHUMBUSEAL_MAX_FRAME_PLAINTEXT 160
+#define KHUMBUSEAL_MAX_SEALED 4112         /* KHUMBUSEAL_MAX_PLAINTEXT and the tag */
+#define KHUMBUSEAL_POSITION_SIZE 16        /* the plaintext of a position frame */
+#define KHUMBUSEAL_FRAME_OVERHEAD 32       /* what a frame has besides its plaintext: 16 in front and the tag */
+#define KHUMBUSEAL_MAX_FRAME_PLAINTEXT 160 /* of any kind */
+#define KHUMBUSEAL_MAX_FRAME 192           /* the longest frame of any kind */
 
 /* The routes of hashing. They differ in time alone: where khumbuseal_hash_key_belongs says 1, the answers are the
    same. Any other number is the wide route. */
@@ -64,10 +68,19 @@ extern "C" {
 #define KHUMBUSEAL_NARROW 1 /* 32-bit limbs */
 #define KHUMBUSEAL_RF 2     /* the stored powers of H with their D values; counts its multiplies */
 
-/* The kinds of frame. */
+/* The kinds of frame, and the byte that each begins with. */
+#define KHUMBUSEAL_MARK 0x4B
 #define KHUMBUSEAL_POSITION 1 /* plaintext of exactly 16 bytes */
 #define KHUMBUSEAL_TEXT 2     /* plaintext of 1 to 160 bytes */
 #define KHUMBUSEAL_CHECK_IN 3 /* no plaintext */
+
+/* The ranges of a position, both ends included: latitude and longitude in 10^-7 degree, altitude in cm. */
+#define KHUMBUSEAL_LAT_MIN (-900000000)
+#define KHUMBUSEAL_LAT_MAX 900000000
+#define KHUMBUSEAL_LON_MIN (-1800000000)
+#define KHUMBUSEAL_LON_MAX 1800000000
+#define KHUMBUSEAL_ALT_MIN (-50000)
+#define KHUMBUSEAL_ALT_MAX 1000000
 
 /* HASHING: POLYVAL over a message in parts.
 
@@ -152,7 +165,7 @@ uint8_t khumbuseal_seal(const uint8_t *key, size_t key_len, const uint8_t *nonce
 uint8_t khumbuseal_open(const uint8_t *key, size_t key_len, const uint8_t *nonce, size_t nonce_len, const uint8_t *ad,
                         size_t ad_len, const uint8_t *sealed, size_t sealed_len, uint8_t *out, size_t out_len);
 
-/* FRAMES. Byte 0: 0x4B. Byte 1: kind. Bytes 2-3: little-endian length of the sealed part. Bytes 4-15: nonce. Then the
+/* FRAMES. Byte 0: KHUMBUSEAL_MARK. Byte 1: kind. Bytes 2-3: little-endian length of the sealed part. Bytes 4-15: nonce. Then the
    sealed part, whose associated data is bytes 0-3. */
 
 /* Writes a frame: out gets plaintext_len + 32 bytes; bytes behind them keep their values. Reads key, nonce and
@@ -190,8 +203,8 @@ void khumbuseal_position_to_bytes(int32_t lat, int32_t lon, int32_t alt, uint32_
 void khumbuseal_position_from_bytes(const uint8_t bytes[KHUMBUSEAL_POSITION_SIZE], int32_t *lat, int32_t *lon,
                                     int32_t *alt, uint32_t *time);
 
-/* Not an answer but a yes or no: 1 where a frame may hold this position, else 0. Latitude from -900,000,000 to
-   900,000,000, longitude from -1,800,000,000 to 1,800,000,000, altitude from -50,000 to 1,000,000; time may be any. */
+/* Not an answer but a yes or no: 1 where a frame may hold this position, else 0: latitude, longitude and altitude in
+   their ranges above; time may be any. */
 uint8_t khumbuseal_position_is_in_range(int32_t lat, int32_t lon, int32_t alt);
 
 #ifdef __cplusplus

@@ -12,9 +12,10 @@
 #define UNTOUCHED 0xA5
 
 /* Where a record has its sum, its pending bytes and their count. */
-#define SUM 128
-#define PENDING 144
-#define COUNT 160
+#define BLOCK 16
+#define SUM KHUMBUSEAL_STORED_KEY_SIZE
+#define PENDING (SUM + BLOCK)
+#define COUNT (PENDING + BLOCK)
 
 struct bytes {
     uint8_t *at;
@@ -75,10 +76,16 @@ static int as_number(const char *word, uint64_t largest, uint64_t *value)
 
 static int as_route(const char *word, uint8_t *route)
 {
-    static const char *const names[] = {"wide", "narrow", "rf"};
-    for (*route = 0; *route < 3; (*route)++)
-        if (strcmp(word, names[*route]) == 0)
+    static const struct {
+        const char *name;
+        uint8_t route;
+    } routes[] = {{"wide", KHUMBUSEAL_WIDE}, {"narrow", KHUMBUSEAL_NARROW}, {"rf", KHUMBUSEAL_RF}};
+    size_t i;
+    for (i = 0; i < sizeof routes / sizeof routes[0]; i++)
+        if (strcmp(word, routes[i].name) == 0) {
+            *route = routes[i].route;
             return 1;
+        }
     return 0;
 }
 
@@ -96,8 +103,8 @@ static int as_record(char *word, uint8_t *record)
                 return 0;
             parts[n++] = word + 1;
         }
-    if (n != 4 || !as_bytes(parts[0], record, SUM) || !as_bytes(parts[1], record + SUM, 16) ||
-        !as_bytes(parts[2], record + PENDING, 16) || !as_number(parts[3], ~(uint64_t)0, &count))
+    if (n != 4 || !as_bytes(parts[0], record, SUM) || !as_bytes(parts[1], record + SUM, BLOCK) ||
+        !as_bytes(parts[2], record + PENDING, BLOCK) || !as_number(parts[3], ~(uint64_t)0, &count))
         return 0;
     for (i = 0; i < 8; i++)
         record[COUNT + i] = (uint8_t)(count >> 8 * i);
@@ -130,9 +137,9 @@ static void put_record(const uint8_t *record)
         count = count << 8 | record[COUNT + i];
     put_bytes(record, SUM);
     putchar(':');
-    put_bytes(record + SUM, 16);
+    put_bytes(record + SUM, BLOCK);
     putchar(':');
-    put_bytes(record + PENDING, 16);
+    put_bytes(record + PENDING, BLOCK);
     putchar(':');
     put_number(count);
 }
@@ -261,9 +268,9 @@ static int ghash(void)
         return 0;
     memset(tag, UNTOUCHED, sizeof tag);
     answer = khumbuseal_ghash(key.at, key.len, data.at, data.len, tag);
-    if (khumbuseal_ghash_start(record, key.at, key.len) != (answer == KHUMBUSEAL_KEY_LENGTH ? answer : 0))
+    if (khumbuseal_ghash_start(record, key.at, key.len) != (answer == KHUMBUSEAL_KEY_LENGTH ? answer : KHUMBUSEAL_DONE))
         putchar('!');
-    if (answer == 0) { /* the same in two parts, of which the first is half of the blocks */
+    if (answer == KHUMBUSEAL_DONE) { /* the same in two parts, of which the first is half of the blocks */
         size_t half = data.len / 32 * 16;
         khumbuseal_ghash_feed_padded(record, data.at, half);
         khumbuseal_ghash_feed_padded(record, data.at + half, data.len - half);
@@ -334,6 +341,13 @@ static int write(void)
     return 1;
 }
 
+/* Whether an answer is about the front of a frame, which needs no key. */
+static int is_of_the_front(uint8_t answer)
+{
+    return answer == KHUMBUSEAL_NOT_A_FRAME || answer == KHUMBUSEAL_UNKNOWN_KIND || answer == KHUMBUSEAL_LENGTH_FOR_KIND ||
+           answer == KHUMBUSEAL_CUT_SHORT;
+}
+
 static int read(void)
 {
     struct bytes key, data;
@@ -346,9 +360,9 @@ static int read(void)
         return 0;
     memset(out, UNTOUCHED, room);
     answer = khumbuseal_frame_read(key.at, key.len, data.at, data.len, out, room, &kind, &len, &taken, &lat, &lon, &alt, &time);
-    if (khumbuseal_frame_front(data.at, data.len, &front_kind, &front_taken) != (answer >= 9 && answer <= 12 ? answer : 0))
+    if (khumbuseal_frame_front(data.at, data.len, &front_kind, &front_taken) != (is_of_the_front(answer) ? answer : KHUMBUSEAL_DONE))
         putchar('!');
-    if (answer == 0 ? kind != front_kind || taken != front_taken : kind || len || taken || lat || lon || alt || time)
+    if (answer == KHUMBUSEAL_DONE ? kind != front_kind || taken != front_taken : kind || len || taken || lat || lon || alt || time)
         putchar('!');
     if (answer)
         printf("refused %d ", answer);

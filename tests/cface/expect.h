@@ -27,15 +27,12 @@ size_t unhex(const char *digits, uint8_t *bytes);
 void count_up(uint8_t *bytes, size_t count, uint8_t seed);
 
 /* The tests, a group in each file. */
+void test_numbers(void);
 void test_hashing(void);
 void test_ghash(void);
 void test_sealing(void);
 void test_frames(void);
 void test_scan(void);
 void test_positions(void);
-
-/* A line of RFC 8452's list: right is 1 where it stands as it is there, 0 where one digit of it was changed. */
-void test_vector(const uint8_t *key, size_t key_len, const uint8_t *nonce, const uint8_t *ad, size_t ad_len,
-                 const uint8_t *plaintext, size_t plaintext_len, const uint8_t *sealed, size_t sealed_len, int right);
 
 #endif

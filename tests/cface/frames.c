@@ -5,10 +5,20 @@
 #include "expect.h"
 #include "khumbuseal.h"
 
-#define ROOM 400
+#define ROOM (2 * KHUMBUSEAL_MAX_FRAME + 16)
+
+/* The key lengths that sealing takes; what a frame has in front of its sealed part; the frames of fixed length. */
+#define SHORT_KEY 16
+#define LONG_KEY 32
+#define FRONT (KHUMBUSEAL_FRAME_OVERHEAD - KHUMBUSEAL_TAG_SIZE)
+#define POSITION_FRAME (KHUMBUSEAL_POSITION_SIZE + KHUMBUSEAL_FRAME_OVERHEAD)
+#define CHECK_IN_FRAME KHUMBUSEAL_FRAME_OVERHEAD
+
+/* No kind of frame: the number after the last. */
+#define NO_KIND (KHUMBUSEAL_CHECK_IN + 1)
 
 /* key is 00 01 .. 1f, or its first half; nonce 10 11 .. 1b */
-static uint8_t key[32], nonce[16], plain[200], out[ROOM];
+static uint8_t key[LONG_KEY], nonce[KHUMBUSEAL_NONCE_SIZE], plain[KHUMBUSEAL_MAX_FRAME_PLAINTEXT + 40], out[ROOM];
 
 static const char position_frame[] = /* 27.9881 N, 0.9999999 W, -500 m, under the 16-byte key */
     "4b012000101112131415161718191a1bd99a57be4dc87c7ad298cf8afe7d48f23b7968b2b2a1e1e60161fe1e1a545a9d";
@@ -47,7 +57,9 @@ static void spell(int32_t lat, int32_t lon, int32_t alt, uint32_t time, const ch
 
 static void test_ranges(void)
 {
-    static const int32_t ends[3][2] = {{-900000000, 900000000}, {-1800000000, 1800000000}, {-50000, 1000000}};
+    static const int32_t ends[3][2] = {{KHUMBUSEAL_LAT_MIN, KHUMBUSEAL_LAT_MAX},
+                                       {KHUMBUSEAL_LON_MIN, KHUMBUSEAL_LON_MAX},
+                                       {KHUMBUSEAL_ALT_MIN, KHUMBUSEAL_ALT_MAX}};
     int field, step;
     for (field = 0; field < 3; field++)
         for (step = -1; step <= 1; step++) {
@@ -59,7 +71,7 @@ static void test_ranges(void)
         }
     EXPECT("in range: least", khumbuseal_position_is_in_range(INT32_MIN, 0, 0), 0);
     EXPECT("in range: greatest", khumbuseal_position_is_in_range(0, INT32_MAX, 0), 0);
-    EXPECT("in range: all ends", khumbuseal_position_is_in_range(-900000000, 1800000000, -50000), 1);
+    EXPECT("in range: all ends", khumbuseal_position_is_in_range(KHUMBUSEAL_LAT_MIN, KHUMBUSEAL_LON_MAX, KHUMBUSEAL_ALT_MIN), 1);
 }
 
 void test_positions(void)
@@ -79,7 +91,8 @@ static void write_one(uint8_t kind, size_t key_len, size_t plain_len, const char
 {
     size_t written = 77, size = plain_len + KHUMBUSEAL_FRAME_OVERHEAD;
     memset(out, UNTOUCHED, ROOM);
-    EXPECT("frame_write", khumbuseal_frame_write(kind, key, key_len, nonce, 12, plain, plain_len, out, size, &written), 0);
+    EXPECT("frame_write", khumbuseal_frame_write(kind, key, key_len, nonce, sizeof nonce, plain, plain_len, out, size, &written),
+           KHUMBUSEAL_DONE);
     EXPECT("frame_write: written", written, size);
     EXPECT_HEX("frame_write: the frame", out, wanted);
     EXPECT_ALL("frame_write: bytes behind", out + size, ROOM - size, UNTOUCHED);
@@ -88,20 +101,22 @@ static void write_one(uint8_t kind, size_t key_len, size_t plain_len, const char
 /* Every set of faults at once: the first of 10, 11, 13, 1, 2, 7 that applies. */
 static void test_write_refusals(void)
 {
-    static const uint8_t order[] = {10, 11, 13, 1, 2, 7};
+    static const uint8_t order[] = {KHUMBUSEAL_UNKNOWN_KIND, KHUMBUSEAL_LENGTH_FOR_KIND, KHUMBUSEAL_OUT_OF_RANGE,
+                                    KHUMBUSEAL_KEY_LENGTH,   KHUMBUSEAL_NONCE_LENGTH,    KHUMBUSEAL_NO_ROOM};
     int faults, i;
     for (faults = 0; faults < 64; faults++) {
-        uint8_t kind = faults & 1 ? 4 : KHUMBUSEAL_POSITION, wanted = 0, answer;
-        size_t plain_len = faults & 2 ? 17 : 16, written = 77;
+        uint8_t kind = faults & 1 ? NO_KIND : KHUMBUSEAL_POSITION, wanted = KHUMBUSEAL_DONE, answer;
+        size_t plain_len = KHUMBUSEAL_POSITION_SIZE + (faults & 2 ? 1 : 0), written = 77;
         begin();
-        khumbuseal_position_to_bytes(900000000 + (faults & 4 ? 1 : 0), 0, 0, 0, plain);
+        khumbuseal_position_to_bytes(KHUMBUSEAL_LAT_MAX + (faults & 4 ? 1 : 0), 0, 0, 0, plain);
         for (i = 5; i >= 0; i--)
             if (faults >> i & 1)
                 wanted = order[i];
-        answer = khumbuseal_frame_write(kind, key, faults & 8 ? 17 : 16, nonce, faults & 16 ? 0 : 12, plain, plain_len,
-                                        out, plain_len + (faults & 32 ? 31 : 32), &written);
+        answer = khumbuseal_frame_write(kind, key, SHORT_KEY + (faults & 8 ? 1 : 0), nonce, faults & 16 ? 0 : sizeof nonce, plain,
+                                        plain_len, out, plain_len + KHUMBUSEAL_FRAME_OVERHEAD - (faults & 32 ? 1 : 0),
+                                        &written);
         EXPECT("frame_write: order of refusals", answer, wanted);
-        EXPECT("frame_write: written", written, wanted ? 0 : 48);
+        EXPECT("frame_write: written", written, wanted ? 0 : POSITION_FRAME);
         if (wanted)
             EXPECT_ALL("frame_write: refused", out, ROOM, UNTOUCHED);
     }
@@ -109,18 +124,32 @@ static void test_write_refusals(void)
 
 static void test_write_lengths(void)
 {
-    /* kind, length, answer */
-    static const int cases[][3] = {{1, 15, 11}, {1, 17, 11}, {1, 0, 11}, {2, 0, 11}, {2, 1, 0},   {2, 160, 0}, {2, 161, 11},
-                                   {3, 0, 0},   {3, 1, 11},  {0, 0, 10}, {4, 0, 10}, {255, 0, 10}};
+    static const struct {
+        uint8_t kind;
+        size_t len;
+        uint8_t answer;
+    } cases[] = {
+        {KHUMBUSEAL_POSITION, KHUMBUSEAL_POSITION_SIZE - 1, KHUMBUSEAL_LENGTH_FOR_KIND},
+        {KHUMBUSEAL_POSITION, KHUMBUSEAL_POSITION_SIZE + 1, KHUMBUSEAL_LENGTH_FOR_KIND},
+        {KHUMBUSEAL_POSITION, 0, KHUMBUSEAL_LENGTH_FOR_KIND},
+        {KHUMBUSEAL_TEXT, 0, KHUMBUSEAL_LENGTH_FOR_KIND},
+        {KHUMBUSEAL_TEXT, 1, KHUMBUSEAL_DONE},
+        {KHUMBUSEAL_TEXT, KHUMBUSEAL_MAX_FRAME_PLAINTEXT, KHUMBUSEAL_DONE},
+        {KHUMBUSEAL_TEXT, KHUMBUSEAL_MAX_FRAME_PLAINTEXT + 1, KHUMBUSEAL_LENGTH_FOR_KIND},
+        {KHUMBUSEAL_CHECK_IN, 0, KHUMBUSEAL_DONE},
+        {KHUMBUSEAL_CHECK_IN, 1, KHUMBUSEAL_LENGTH_FOR_KIND},
+        {0, 0, KHUMBUSEAL_UNKNOWN_KIND},
+        {NO_KIND, 0, KHUMBUSEAL_UNKNOWN_KIND},
+        {255, 0, KHUMBUSEAL_UNKNOWN_KIND},
+    };
     size_t i, written;
     for (i = 0; i < sizeof cases / sizeof cases[0]; i++) {
         written = 77;
         begin();
         EXPECT("frame_write: lengths of a kind",
-               khumbuseal_frame_write((uint8_t)cases[i][0], key, 16, nonce, 12, plain, (size_t)cases[i][1], out, ROOM,
-                                      &written),
-               cases[i][2]);
-        EXPECT("frame_write: written", written, cases[i][2] ? 0 : cases[i][1] + 32);
+               khumbuseal_frame_write(cases[i].kind, key, SHORT_KEY, nonce, sizeof nonce, plain, cases[i].len, out, ROOM, &written),
+               cases[i].answer);
+        EXPECT("frame_write: written", written, cases[i].answer ? 0 : cases[i].len + KHUMBUSEAL_FRAME_OVERHEAD);
     }
 }
 
@@ -163,31 +192,32 @@ static void expect_refused(const char *what, struct cells got, uint8_t answer)
 
 static void test_read_kinds(void)
 {
-    const struct cells position = {0, KHUMBUSEAL_POSITION, 0, 48, 279881000, -9999999, -50000, 1700000000};
-    const struct cells text = {0, KHUMBUSEAL_TEXT, 6, 38, 0, 0, 0, 0};
-    const struct cells check_in = {0, KHUMBUSEAL_CHECK_IN, 0, 32, 0, 0, 0, 0};
+    const struct cells position = {KHUMBUSEAL_DONE, KHUMBUSEAL_POSITION, 0, POSITION_FRAME, 279881000, -9999999, -50000, 1700000000};
+    const struct cells text = {KHUMBUSEAL_DONE, KHUMBUSEAL_TEXT, 6, 6 + KHUMBUSEAL_FRAME_OVERHEAD, 0, 0, 0, 0};
+    const struct cells check_in = {KHUMBUSEAL_DONE, KHUMBUSEAL_CHECK_IN, 0, CHECK_IN_FRAME, 0, 0, 0, 0};
+    const size_t room = KHUMBUSEAL_POSITION_SIZE;
     uint8_t frame[ROOM];
     size_t size, n;
     begin();
     size = unhex(position_frame, frame);
-    expect_cells("read a position", read_one(16, frame, size, 16), position);
+    expect_cells("read a position", read_one(SHORT_KEY, frame, size, room), position);
     EXPECT_HEX("its plaintext", out, "28a5ae10816967ffb03cffff00f15365");
-    EXPECT_ALL("read a position: bytes behind", out + 16, ROOM - 16, UNTOUCHED);
-    expect_cells("read a position, more behind it", read_one(16, frame, ROOM, 160), position);
+    EXPECT_ALL("read a position: bytes behind", out + room, ROOM - room, UNTOUCHED);
+    expect_cells("read a position, more behind it", read_one(SHORT_KEY, frame, ROOM, KHUMBUSEAL_MAX_FRAME_PLAINTEXT), position);
     for (n = 0; n < size; n++)
-        expect_refused("read a cut position", read_one(16, frame, n, 16), KHUMBUSEAL_CUT_SHORT);
-    expect_refused("read a position, no room", read_one(16, frame, size, 15), KHUMBUSEAL_NO_ROOM);
-    expect_refused("read a position, another key", read_one(32, frame, size, 16), KHUMBUSEAL_TAG_DIFFERS);
+        expect_refused("read a cut position", read_one(SHORT_KEY, frame, n, room), KHUMBUSEAL_CUT_SHORT);
+    expect_refused("read a position, no room", read_one(SHORT_KEY, frame, size, room - 1), KHUMBUSEAL_NO_ROOM);
+    expect_refused("read a position, another key", read_one(LONG_KEY, frame, size, room), KHUMBUSEAL_TAG_DIFFERS);
     size = unhex(text_frame, frame);
-    expect_cells("read a text", read_one(32, frame, size, 6), text);
+    expect_cells("read a text", read_one(LONG_KEY, frame, size, 6), text);
     EXPECT_BYTES("its bytes", out, (const uint8_t *)"Namche", 6);
     EXPECT_ALL("read a text: bytes behind", out + 6, ROOM - 6, UNTOUCHED);
     size = unhex(check_in_frame, frame);
-    expect_cells("read a check-in", read_one(16, frame, size, 0), check_in);
+    expect_cells("read a check-in", read_one(SHORT_KEY, frame, size, 0), check_in);
     EXPECT_ALL("read a check-in: out", out, ROOM, UNTOUCHED);
     for (n = 4; n < size; n++) {
         frame[n] ^= 128;
-        expect_refused("read a damaged check-in", read_one(16, frame, size, 0), KHUMBUSEAL_TAG_DIFFERS);
+        expect_refused("read a damaged check-in", read_one(SHORT_KEY, frame, size, 0), KHUMBUSEAL_TAG_DIFFERS);
         frame[n] ^= 128;
     }
 }
@@ -196,62 +226,71 @@ static void test_read_kinds(void)
 static void seal_position(uint8_t *frame, int32_t alt)
 {
     uint8_t bytes[KHUMBUSEAL_POSITION_SIZE];
-    const uint8_t front[4] = {0x4B, KHUMBUSEAL_POSITION, 32, 0};
+    const uint8_t front[4] = {KHUMBUSEAL_MARK, KHUMBUSEAL_POSITION, KHUMBUSEAL_POSITION_SIZE + KHUMBUSEAL_TAG_SIZE, 0};
     khumbuseal_position_to_bytes(0, 0, alt, 0, bytes);
-    memcpy(frame, front, 4);
-    memcpy(frame + 4, nonce, 12);
-    EXPECT("seal a position", khumbuseal_seal(key, 16, nonce, 12, front, 4, bytes, 16, frame + 16, 32), 0);
+    memcpy(frame, front, sizeof front);
+    memcpy(frame + sizeof front, nonce, sizeof nonce);
+    EXPECT("seal a position",
+           khumbuseal_seal(key, SHORT_KEY, nonce, sizeof nonce, front, sizeof front, bytes, sizeof bytes, frame + FRONT,
+                           POSITION_FRAME - FRONT),
+           KHUMBUSEAL_DONE);
 }
 
 /* Every set of faults at once: the first of 9, 10, 11, 12, 1, 7, 8, 13 that applies. */
 static void test_read_refusals(void)
 {
-    static const uint8_t order[] = {9, 10, 11, 12, 1, 7, 8, 13};
-    const struct cells whole = {0, KHUMBUSEAL_POSITION, 0, 48, 0, 0, 1000000, 0};
-    uint8_t frame[48], wanted;
+    static const uint8_t order[] = {KHUMBUSEAL_NOT_A_FRAME, KHUMBUSEAL_UNKNOWN_KIND, KHUMBUSEAL_LENGTH_FOR_KIND,
+                                    KHUMBUSEAL_CUT_SHORT,   KHUMBUSEAL_KEY_LENGTH,   KHUMBUSEAL_NO_ROOM,
+                                    KHUMBUSEAL_TAG_DIFFERS, KHUMBUSEAL_OUT_OF_RANGE};
+    const struct cells whole = {KHUMBUSEAL_DONE, KHUMBUSEAL_POSITION, 0, POSITION_FRAME, 0, 0, KHUMBUSEAL_ALT_MAX, 0};
+    uint8_t frame[POSITION_FRAME], wanted;
     int faults, i;
     begin();
     for (faults = 0; faults < 256; faults++) {
         struct cells got;
-        seal_position(frame, 1000000 + (faults & 128 ? 1 : 0));
+        seal_position(frame, KHUMBUSEAL_ALT_MAX + (faults & 128 ? 1 : 0));
         if (faults & 1)
-            frame[0] = 0x4A;
+            frame[0]--;
         if (faults & 2)
             frame[1] = 0;
         if (faults & 4)
-            frame[2] = 33;
+            frame[2]++;
         if (faults & 64)
-            frame[47] ^= 1;
-        wanted = 0;
+            frame[POSITION_FRAME - 1] ^= 1;
+        wanted = KHUMBUSEAL_DONE;
         for (i = 7; i >= 0; i--)
             if (faults >> i & 1)
                 wanted = order[i];
-        got = read_one(faults & 16 ? 0 : 16, frame, faults & 8 ? 47 : 48, faults & 32 ? 0 : 16);
+        got = read_one(faults & 16 ? 0 : SHORT_KEY, frame, sizeof frame - (faults & 8 ? 1 : 0),
+                       faults & 32 ? 0 : KHUMBUSEAL_POSITION_SIZE);
         if (wanted)
             expect_refused("frame_read: order of refusals", got, wanted);
         else
-            expect_cells("frame_read: altitude 1,000,000", got, whole);
+            expect_cells("frame_read: the greatest altitude", got, whole);
     }
 }
 
 /* Byte pointers need no alignment. */
 static void test_unaligned(size_t offset)
 {
-    static uint64_t aligned[3][40];
+    static uint64_t aligned[3][KHUMBUSEAL_MAX_FRAME / 8 + 2];
     uint8_t *where = (uint8_t *)aligned[0] + offset, *frame = (uint8_t *)aligned[1] + offset;
     uint8_t *secret = (uint8_t *)aligned[2] + offset;
     struct cells c;
     size_t written;
     begin();
-    memcpy(secret, key, 16);
-    memcpy(secret + 16, nonce, 12);
+    memcpy(secret, key, SHORT_KEY);
+    memcpy(secret + SHORT_KEY, nonce, sizeof nonce);
     khumbuseal_position_to_bytes(279881000, -9999999, -50000, 1700000000, where);
     EXPECT("unaligned: write",
-           khumbuseal_frame_write(KHUMBUSEAL_POSITION, secret, 16, secret + 16, 12, where, 16, frame, 48, &written), 0);
+           khumbuseal_frame_write(KHUMBUSEAL_POSITION, secret, SHORT_KEY, secret + SHORT_KEY, sizeof nonce, where,
+                                  KHUMBUSEAL_POSITION_SIZE, frame, POSITION_FRAME, &written),
+           KHUMBUSEAL_DONE);
     EXPECT_HEX("unaligned: frame", frame, position_frame);
     EXPECT("unaligned: read",
-           khumbuseal_frame_read(secret, 16, frame, 48, where, 16, &c.kind, &c.len, &c.taken, &c.lat, &c.lon, &c.alt, &c.time),
-           0);
+           khumbuseal_frame_read(secret, SHORT_KEY, frame, POSITION_FRAME, where, KHUMBUSEAL_POSITION_SIZE, &c.kind, &c.len,
+                                 &c.taken, &c.lat, &c.lon, &c.alt, &c.time),
+           KHUMBUSEAL_DONE);
     khumbuseal_position_from_bytes(where, &c.lat, &c.lon, &c.alt, &c.time);
     EXPECT("unaligned: latitude", c.lat, 279881000);
     EXPECT("unaligned: longitude", c.lon, -9999999);
@@ -264,10 +303,10 @@ void test_frames(void)
         test_unaligned(offset);
     begin();
     unhex("28a5ae10816967ffb03cffff00f15365", plain);
-    write_one(KHUMBUSEAL_POSITION, 16, 16, position_frame);
+    write_one(KHUMBUSEAL_POSITION, SHORT_KEY, KHUMBUSEAL_POSITION_SIZE, position_frame);
     memcpy(plain, "Namche", 6);
-    write_one(KHUMBUSEAL_TEXT, 32, 6, text_frame);
-    write_one(KHUMBUSEAL_CHECK_IN, 16, 0, check_in_frame);
+    write_one(KHUMBUSEAL_TEXT, LONG_KEY, 6, text_frame);
+    write_one(KHUMBUSEAL_CHECK_IN, SHORT_KEY, 0, check_in_frame);
     test_write_refusals();
     test_write_lengths();
     test_read_kinds();
@@ -303,34 +342,34 @@ static void test_log(void)
     for (n = 0; n <= size; n++) {
         size_t prefix = n < first ? 0 : n < second ? first : n < size ? second : size;
         uint64_t frames = n < first ? 0 : n < second ? 1 : n < size ? 2 : 3;
-        scan(log, n, prefix, frames, n == prefix ? 0 : KHUMBUSEAL_CUT_SHORT);
+        scan(log, n, prefix, frames, n == prefix ? KHUMBUSEAL_DONE : KHUMBUSEAL_CUT_SHORT);
     }
-    log[size] = 0x4A;
+    log[size] = KHUMBUSEAL_MARK - 1;
     scan(log, size + 1, size, 3, KHUMBUSEAL_NOT_A_FRAME);
     log[second] = 0;
     scan(log, size, second, 2, KHUMBUSEAL_NOT_A_FRAME);
-    log[first + 1] = 9;
+    log[first + 1] = NO_KIND;
     scan(log, size, first, 1, KHUMBUSEAL_UNKNOWN_KIND);
-    log[2] = 31;
+    log[2]--;
     scan(log, size, 0, 0, KHUMBUSEAL_LENGTH_FOR_KIND);
 }
 
 void test_scan(void)
 {
-    scan(NULL, 0, 0, 0, 0);
+    scan(NULL, 0, 0, 0, KHUMBUSEAL_DONE);
     front("", 0, KHUMBUSEAL_CUT_SHORT, 0, 0);
     front("4a", 1, KHUMBUSEAL_NOT_A_FRAME, 0, 0);
     front("4b", 1, KHUMBUSEAL_CUT_SHORT, 0, 0);
     front("4b04", 2, KHUMBUSEAL_UNKNOWN_KIND, 0, 0);
     front("4b02b1", 3, KHUMBUSEAL_CUT_SHORT, 0, 0);
     front("4b02b100", 4, KHUMBUSEAL_LENGTH_FOR_KIND, 0, 0);
-    front("4b02b000", 191, KHUMBUSEAL_CUT_SHORT, 0, 0);
-    front("4b02b000", 192, 0, KHUMBUSEAL_TEXT, 192);
+    front("4b02b000", KHUMBUSEAL_MAX_FRAME - 1, KHUMBUSEAL_CUT_SHORT, 0, 0);
+    front("4b02b000", KHUMBUSEAL_MAX_FRAME, KHUMBUSEAL_DONE, KHUMBUSEAL_TEXT, KHUMBUSEAL_MAX_FRAME);
     front("4b021000", 300, KHUMBUSEAL_LENGTH_FOR_KIND, 0, 0);
-    front("4b021100", 300, 0, KHUMBUSEAL_TEXT, 33);
-    front("4b012000", 47, KHUMBUSEAL_CUT_SHORT, 0, 0);
-    front("4b012000", 48, 0, KHUMBUSEAL_POSITION, 48);
-    front("4b031000", 32, 0, KHUMBUSEAL_CHECK_IN, 32);
+    front("4b021100", 300, KHUMBUSEAL_DONE, KHUMBUSEAL_TEXT, KHUMBUSEAL_FRAME_OVERHEAD + 1);
+    front("4b012000", POSITION_FRAME - 1, KHUMBUSEAL_CUT_SHORT, 0, 0);
+    front("4b012000", POSITION_FRAME, KHUMBUSEAL_DONE, KHUMBUSEAL_POSITION, POSITION_FRAME);
+    front("4b031000", CHECK_IN_FRAME, KHUMBUSEAL_DONE, KHUMBUSEAL_CHECK_IN, CHECK_IN_FRAME);
     front("4b031001", 300, KHUMBUSEAL_LENGTH_FOR_KIND, 0, 0);
     test_log();
 }

@@ -15,9 +15,10 @@
 #define ZERO "00000000000000000000000000000000"
 
 /* Where a record has its sum, its pending bytes and their count. */
-#define SUM 128
-#define PENDING 144
-#define COUNT 160
+#define BLOCK 16
+#define SUM KHUMBUSEAL_STORED_KEY_SIZE
+#define PENDING (SUM + BLOCK)
+#define COUNT (PENDING + BLOCK)
 
 static const uint8_t routes[] = {KHUMBUSEAL_WIDE, KHUMBUSEAL_NARROW, KHUMBUSEAL_RF, 3, 255};
 #define ROUTES (sizeof routes)
@@ -29,11 +30,11 @@ typedef uint8_t feed(uint8_t *, uint8_t, const uint8_t *, size_t, uint64_t *);
 
 static void start(const char *hex)
 {
-    uint8_t key[16];
+    uint8_t key[KHUMBUSEAL_HASH_KEY_SIZE];
     memset(record, UNTOUCHED, sizeof record);
     spent = 77;
-    EXPECT("bytes of a key", unhex(hex, key), 16);
-    EXPECT("hash_start", khumbuseal_hash_start(record, key, 16, &spent), 0);
+    EXPECT("bytes of a key", unhex(hex, key), sizeof key);
+    EXPECT("hash_start", khumbuseal_hash_start(record, key, sizeof key, &spent), KHUMBUSEAL_DONE);
     EXPECT("hash_start: multiplies", spent, 19);
 }
 
@@ -44,7 +45,7 @@ static void finish(uint8_t route, const char *wanted, uint64_t multiplies)
     memcpy(before, record, sizeof record);
     memset(tag, UNTOUCHED, sizeof tag);
     spent = 77;
-    EXPECT("hash_finish", khumbuseal_hash_finish(record, route, tag, &spent), 0);
+    EXPECT("hash_finish", khumbuseal_hash_finish(record, route, tag, &spent), KHUMBUSEAL_DONE);
     EXPECT_HEX("hash_finish: tag", tag, wanted);
     EXPECT("hash_finish: multiplies", spent, multiplies);
     EXPECT_BYTES("hash_finish: record", record, before, sizeof record);
@@ -53,7 +54,7 @@ static void finish(uint8_t route, const char *wanted, uint64_t multiplies)
 static void feed_one(feed *call, uint8_t route, const uint8_t *data, size_t size, uint64_t multiplies)
 {
     spent = 77;
-    EXPECT("a feed", call(record, route, data, size, &spent), 0);
+    EXPECT("a feed", call(record, route, data, size, &spent), KHUMBUSEAL_DONE);
     EXPECT("a feed: multiplies", spent, route == KHUMBUSEAL_RF ? multiplies : 0);
 }
 
@@ -76,7 +77,7 @@ static void test_start(void)
     size_t n;
     count_up(key, sizeof key, 1);
     for (n = 0; n <= sizeof key; n++) {
-        if (n == 16)
+        if (n == KHUMBUSEAL_HASH_KEY_SIZE)
             continue;
         memset(record, UNTOUCHED, sizeof record);
         spent = 77;
@@ -105,7 +106,7 @@ static void test_appendix_a(uint8_t route)
     finish(route, ZERO, 0);
     feed_one(khumbuseal_hash_feed_blocks, route, x, 32, 10);
     finish(route, POLYVAL_OF_X, 0);
-    EXPECT("hash_reset", khumbuseal_hash_reset(record), 0);
+    EXPECT("hash_reset", khumbuseal_hash_reset(record), KHUMBUSEAL_DONE);
     EXPECT_ALL("hash_reset: nothing fed", record + SUM, sizeof record - SUM, 0);
     feed_one(khumbuseal_hash_feed_padded, route, x, 32, 10);
     finish(route, POLYVAL_OF_X, 0);
@@ -220,10 +221,10 @@ static void test_join(void)
     memcpy(second, record, sizeof second);
     start(H);
     feed_one(khumbuseal_hash_feed_blocks, KHUMBUSEAL_WIDE, x, 16, 0);
-    join(second, 1, 0, 1);
+    join(second, 1, KHUMBUSEAL_DONE, 1);
     finish(KHUMBUSEAL_WIDE, POLYVAL_OF_X, 0);
     EXPECT_ALL("hash_join: nothing pending", record + PENDING, sizeof record - PENDING, 0);
-    join(second, 0xFFFFFFFFFFFFFFFFu, 0, 127);
+    join(second, 0xFFFFFFFFFFFFFFFFu, KHUMBUSEAL_DONE, 127);
     second[COUNT] = 1;
     join(second, 1, KHUMBUSEAL_BAD_RECORD, 0);
     second[COUNT] = 0;
@@ -237,30 +238,30 @@ static void test_join(void)
 /* Byte pointers need no alignment: every record, key, message and tag at each offset from an aligned address. */
 static void test_unaligned(size_t offset, uint8_t route)
 {
-    static uint64_t aligned[4][40];
+    static uint64_t aligned[4][KHUMBUSEAL_RECORD_SIZE / 8 + 2];
     uint8_t *first = (uint8_t *)aligned[0] + offset, *second = (uint8_t *)aligned[1] + offset;
     uint8_t *data = (uint8_t *)aligned[2] + offset, *given = (uint8_t *)aligned[3] + offset;
     unhex(H, given);
     unhex(X, data);
-    EXPECT("unaligned: start", khumbuseal_hash_start(first, given, 16, &spent), 0);
+    EXPECT("unaligned: start", khumbuseal_hash_start(first, given, KHUMBUSEAL_HASH_KEY_SIZE, &spent), KHUMBUSEAL_DONE);
     memcpy(second, first, KHUMBUSEAL_RECORD_SIZE);
-    EXPECT("unaligned: blocks", khumbuseal_hash_feed_blocks(first, route, data, 16, &spent), 0);
-    EXPECT("unaligned: piece", khumbuseal_hash_feed_piece(second, route, data + 16, 5, &spent), 0);
-    EXPECT("unaligned: piece", khumbuseal_hash_feed_piece(second, route, data + 21, 11, &spent), 0);
-    EXPECT("unaligned: join", khumbuseal_hash_join(first, second, 1, &spent), 0);
-    EXPECT("unaligned: finish", khumbuseal_hash_finish(first, route, given, &spent), 0);
+    EXPECT("unaligned: blocks", khumbuseal_hash_feed_blocks(first, route, data, 16, &spent), KHUMBUSEAL_DONE);
+    EXPECT("unaligned: piece", khumbuseal_hash_feed_piece(second, route, data + 16, 5, &spent), KHUMBUSEAL_DONE);
+    EXPECT("unaligned: piece", khumbuseal_hash_feed_piece(second, route, data + 21, 11, &spent), KHUMBUSEAL_DONE);
+    EXPECT("unaligned: join", khumbuseal_hash_join(first, second, 1, &spent), KHUMBUSEAL_DONE);
+    EXPECT("unaligned: finish", khumbuseal_hash_finish(first, route, given, &spent), KHUMBUSEAL_DONE);
     EXPECT_HEX("unaligned: tag", given, POLYVAL_OF_X);
-    EXPECT("unaligned: reset", khumbuseal_hash_reset(first), 0);
-    EXPECT("unaligned: padded", khumbuseal_hash_feed_padded(first, route, data, 32, &spent), 0);
-    EXPECT("unaligned: finish", khumbuseal_hash_finish(first, route, given, &spent), 0);
+    EXPECT("unaligned: reset", khumbuseal_hash_reset(first), KHUMBUSEAL_DONE);
+    EXPECT("unaligned: padded", khumbuseal_hash_feed_padded(first, route, data, 32, &spent), KHUMBUSEAL_DONE);
+    EXPECT("unaligned: finish", khumbuseal_hash_finish(first, route, given, &spent), KHUMBUSEAL_DONE);
     EXPECT_HEX("unaligned: tag", given, POLYVAL_OF_X);
     EXPECT("unaligned: key_belongs", khumbuseal_hash_key_belongs(first), 1);
     unhex(H, given);
-    EXPECT("unaligned: ghash_start", khumbuseal_ghash_start(first, given, 16), 0);
+    EXPECT("unaligned: ghash_start", khumbuseal_ghash_start(first, given, KHUMBUSEAL_HASH_KEY_SIZE), KHUMBUSEAL_DONE);
     khumbuseal_ghash_feed_padded(first, data, 32);
     khumbuseal_ghash_finish(first, second);
     EXPECT_HEX("unaligned: ghash", second, GHASH_OF_X);
-    EXPECT("unaligned: ghash", khumbuseal_ghash(given, 16, data, 32, second), 0);
+    EXPECT("unaligned: ghash", khumbuseal_ghash(given, KHUMBUSEAL_HASH_KEY_SIZE, data, 32, second), KHUMBUSEAL_DONE);
     EXPECT_HEX("unaligned: ghash", second, GHASH_OF_X);
 }
 
@@ -295,11 +296,11 @@ static void ghash(size_t key_len, size_t size, uint8_t answer, const char *wante
 /* The same in parts, of which all but the last are whole blocks. */
 static void ghash_in_parts(size_t first, size_t size, const char *wanted)
 {
-    uint8_t key[16], x[32], state[KHUMBUSEAL_GHASH_RECORD_SIZE], before[KHUMBUSEAL_GHASH_RECORD_SIZE];
+    uint8_t key[KHUMBUSEAL_HASH_KEY_SIZE], x[32], state[KHUMBUSEAL_GHASH_RECORD_SIZE], before[KHUMBUSEAL_GHASH_RECORD_SIZE];
     unhex(H, key);
     unhex(X, x);
     memset(state, UNTOUCHED, sizeof state);
-    EXPECT("ghash_start", khumbuseal_ghash_start(state, key, 16), 0);
+    EXPECT("ghash_start", khumbuseal_ghash_start(state, key, sizeof key), KHUMBUSEAL_DONE);
     khumbuseal_ghash_feed_padded(state, x, first);
     khumbuseal_ghash_feed_padded(state, x + first, size - first);
     memcpy(before, state, sizeof state);
@@ -311,17 +312,17 @@ static void ghash_in_parts(size_t first, size_t size, const char *wanted)
 
 void test_ghash(void)
 {
-    uint8_t state[KHUMBUSEAL_GHASH_RECORD_SIZE], key[17] = {0};
-    ghash(16, 32, 0, GHASH_OF_X);
-    ghash(16, 0, 0, ZERO);
-    ghash(15, 32, KHUMBUSEAL_KEY_LENGTH, ZERO);
-    ghash(17, 31, KHUMBUSEAL_KEY_LENGTH, ZERO);
-    ghash(16, 31, KHUMBUSEAL_NOT_WHOLE_BLOCKS, ZERO);
+    uint8_t state[KHUMBUSEAL_GHASH_RECORD_SIZE], key[KHUMBUSEAL_HASH_KEY_SIZE + 1] = {0};
+    ghash(KHUMBUSEAL_HASH_KEY_SIZE, 32, KHUMBUSEAL_DONE, GHASH_OF_X);
+    ghash(KHUMBUSEAL_HASH_KEY_SIZE, 0, KHUMBUSEAL_DONE, ZERO);
+    ghash(KHUMBUSEAL_HASH_KEY_SIZE - 1, 32, KHUMBUSEAL_KEY_LENGTH, ZERO);
+    ghash(KHUMBUSEAL_HASH_KEY_SIZE + 1, 31, KHUMBUSEAL_KEY_LENGTH, ZERO);
+    ghash(KHUMBUSEAL_HASH_KEY_SIZE, 31, KHUMBUSEAL_NOT_WHOLE_BLOCKS, ZERO);
     ghash_in_parts(0, 32, GHASH_OF_X);
     ghash_in_parts(16, 32, GHASH_OF_X);
     ghash_in_parts(32, 32, GHASH_OF_X);
     ghash_in_parts(16, 20, "ec194718e178c185bacc9a68e09ee55f"); /* tests/second, the last block filled with zeros */
     memset(state, UNTOUCHED, sizeof state);
-    EXPECT("ghash_start: length of the key", khumbuseal_ghash_start(state, key, 17), KHUMBUSEAL_KEY_LENGTH);
+    EXPECT("ghash_start: length of the key", khumbuseal_ghash_start(state, key, sizeof key), KHUMBUSEAL_KEY_LENGTH);
     EXPECT_ALL("ghash_start, refused: record", state, sizeof state, UNTOUCHED);
 }

@@ -1,12 +1,9 @@
-/* Tests of the C face. Without a word it runs the cases that are written here; with the word 'vectors' it seals and
-   opens each line of standard input, five words in hex (key, nonce, associated data, plaintext, sealed part), and with
-   'altered' none of the lines may open or be sealed so. The last line that it prints is 'N passed, M failed'. */
+/* Tests of the C face: the cases that are written here. The last line that it prints is 'N passed, M failed'. */
 #include <stdio.h>
-#include <string.h>
 
 #include "expect.h"
+#include "khumbuseal.h"
 
-#define WORDS 5
 #define LONGEST_WORD 1024
 
 static int passed, failed;
@@ -80,59 +77,15 @@ void count_up(uint8_t *bytes, size_t n, uint8_t seed)
         bytes[at] = (uint8_t)(7 * at + seed);
 }
 
-/* Reads a line into words; answers how many there are, -1 at the end of the input. A comment has none. */
-static int read_words(char words[WORDS][LONGEST_WORD])
+int main(void)
 {
-    int c = getchar(), n = 0, comment = c == '#';
-    size_t at = 0;
-    if (c == EOF)
-        return -1;
-    for (; c != '\n' && c != EOF; c = getchar()) {
-        if (comment)
-            continue;
-        if (c == ' ' && n < WORDS - 1) {
-            words[n++][at] = 0;
-            at = 0;
-        } else if (at < LONGEST_WORD - 1) {
-            words[n][at++] = (char)c;
-        }
-    }
-    words[n][at] = 0;
-    return comment ? 0 : n + 1;
-}
-
-static void test_vectors(int right)
-{
-    static char words[WORDS][LONGEST_WORD];
-    uint8_t bytes[WORDS][LONGEST_WORD / 2];
-    size_t lengths[WORDS];
-    int found, i;
-    while ((found = read_words(words)) >= 0) {
-        if (found == 0)
-            continue;
-        EXPECT("words of a line", found, WORDS);
-        for (i = 0; i < WORDS; i++)
-            lengths[i] = unhex(words[i], bytes[i]);
-        EXPECT("bytes of a nonce", lengths[1], 12);
-        test_vector(bytes[0], lengths[0], bytes[1], bytes[2], lengths[2], bytes[3], lengths[3], bytes[4], lengths[4],
-                    right);
-    }
-}
-
-int main(int argc, char **argv)
-{
-    if (argc > 1 && strcmp(argv[1], "vectors") == 0) {
-        test_vectors(1);
-    } else if (argc > 1 && strcmp(argv[1], "altered") == 0) {
-        test_vectors(0);
-    } else {
-        test_hashing();
-        test_ghash();
-        test_sealing();
-        test_frames();
-        test_scan();
-        test_positions();
-    }
+    test_numbers();
+    test_hashing();
+    test_ghash();
+    test_sealing();
+    test_frames();
+    test_scan();
+    test_positions();
     printf("%d passed, %d failed\n", passed, failed);
     return failed != 0;
 }

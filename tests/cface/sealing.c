@@ -1,10 +1,14 @@
-/* Sealing and opening through the C face: RFC 8452's list, the limits, and every set of refusals in document 01's order. */
+/* Sealing and opening through the C face: the limits, and every set of refusals in document 01's order. */
 #include <string.h>
 
 #include "expect.h"
 #include "khumbuseal.h"
 
-#define ROOM 4200
+#define ROOM (KHUMBUSEAL_MAX_SEALED + 88)
+
+/* The key lengths that sealing takes. */
+#define SHORT_KEY 16
+#define LONG_KEY 32
 
 static uint8_t out[ROOM];
 static uint8_t text[ROOM];
@@ -15,40 +19,21 @@ static void untouch(void)
     memset(out, UNTOUCHED, ROOM);
 }
 
-void test_vector(const uint8_t *key, size_t key_len, const uint8_t *nonce, const uint8_t *ad, size_t ad_len,
-                 const uint8_t *plaintext, size_t plaintext_len, const uint8_t *right_part, size_t part_len, int right)
-{
-    uint8_t answer;
-    EXPECT("bytes of a sealed part", part_len, plaintext_len + KHUMBUSEAL_TAG_SIZE);
-    untouch();
-    answer = khumbuseal_seal(key, key_len, nonce, 12, ad, ad_len, plaintext, plaintext_len, out, part_len);
-    EXPECT("seal", answer, KHUMBUSEAL_DONE);
-    EXPECT("sealed as listed", memcmp(out, right_part, part_len) == 0, right);
-    EXPECT_ALL("seal: bytes behind", out + part_len, ROOM - part_len, UNTOUCHED);
-    untouch();
-    answer = khumbuseal_open(key, key_len, nonce, 12, ad, ad_len, right_part, part_len, out, plaintext_len);
-    if (!right) {
-        /* a changed plaintext leaves the sealed part right, and it opens to another text than the one listed */
-        EXPECT("opened as listed", answer == 0 && memcmp(out, plaintext, plaintext_len) == 0, 0);
-        if (answer != 0) {
-            EXPECT("open", answer, KHUMBUSEAL_TAG_DIFFERS);
-            EXPECT_ALL("open: refused", out, ROOM, UNTOUCHED);
-        }
-        return;
-    }
-    EXPECT("open", answer, KHUMBUSEAL_DONE);
-    EXPECT_BYTES("opened", out, plaintext, plaintext_len);
-    EXPECT_ALL("open: bytes behind", out + plaintext_len, ROOM - plaintext_len, UNTOUCHED);
-}
-
 /* The lengths that a call of seal is given, in the order in which document 01 looks at them. */
 struct lengths {
     size_t key, nonce, ad, text, out;
 };
 
+/* The most that sealing takes, and the room for it. */
+static struct lengths longest_of(size_t key)
+{
+    const struct lengths n = {key, KHUMBUSEAL_NONCE_SIZE, KHUMBUSEAL_MAX_AD, KHUMBUSEAL_MAX_PLAINTEXT, KHUMBUSEAL_MAX_SEALED};
+    return n;
+}
+
 static uint8_t seal_of(struct lengths n)
 {
-    static uint8_t key[40], nonce[20], ad[300];
+    static uint8_t key[LONG_KEY + 8], nonce[KHUMBUSEAL_NONCE_SIZE + 8], ad[KHUMBUSEAL_MAX_AD + 44];
     count_up(key, sizeof key, 1);
     count_up(nonce, sizeof nonce, 2);
     count_up(ad, sizeof ad, 3);
@@ -59,7 +44,7 @@ static uint8_t seal_of(struct lengths n)
 
 static uint8_t open_of(struct lengths n)
 {
-    static uint8_t key[40], nonce[20], ad[300];
+    static uint8_t key[LONG_KEY + 8], nonce[KHUMBUSEAL_NONCE_SIZE + 8], ad[KHUMBUSEAL_MAX_AD + 44];
     count_up(key, sizeof key, 1);
     count_up(nonce, sizeof nonce, 2);
     count_up(ad, sizeof ad, 3);
@@ -70,20 +55,21 @@ static uint8_t open_of(struct lengths n)
 /* Every set of faults at once: the first of 1, 2, 4, 5, 7 that applies is the answer. */
 static void test_seal_refusals(void)
 {
-    static const uint8_t order[] = {1, 2, 4, 5, 7};
+    static const uint8_t order[] = {KHUMBUSEAL_KEY_LENGTH, KHUMBUSEAL_NONCE_LENGTH, KHUMBUSEAL_AD_TOO_LONG,
+                                    KHUMBUSEAL_TEXT_TOO_LONG, KHUMBUSEAL_NO_ROOM};
     int faults, i;
     for (faults = 0; faults < 32; faults++) {
-        struct lengths n = {16, 12, 256, 4096, 4112};
-        uint8_t wanted = 0, answer;
+        struct lengths n = longest_of(SHORT_KEY);
+        uint8_t wanted = KHUMBUSEAL_DONE, answer;
         if (faults & 1)
-            n.key = 15;
+            n.key--;
         if (faults & 2)
-            n.nonce = 13;
+            n.nonce++;
         if (faults & 4)
-            n.ad = 257;
+            n.ad++;
         if (faults & 8)
-            n.text = 4097;
-        n.out = n.text + (faults & 16 ? 15 : 16);
+            n.text++;
+        n.out = n.text + KHUMBUSEAL_TAG_SIZE - (faults & 16 ? 1 : 0);
         for (i = 4; i >= 0; i--)
             if (faults >> i & 1)
                 wanted = order[i];
@@ -97,31 +83,32 @@ static void test_seal_refusals(void)
 /* The first of 1, 2, 4, 6, 5, 7, 8 that applies; a part cannot be too short and too long at once. */
 static void test_open_refusals(void)
 {
-    static const uint8_t order[] = {1, 2, 4, 6, 5, 7, 8};
+    static const uint8_t order[] = {KHUMBUSEAL_KEY_LENGTH,       KHUMBUSEAL_NONCE_LENGTH,  KHUMBUSEAL_AD_TOO_LONG,
+                                    KHUMBUSEAL_SEALED_TOO_SHORT, KHUMBUSEAL_TEXT_TOO_LONG, KHUMBUSEAL_NO_ROOM,
+                                    KHUMBUSEAL_TAG_DIFFERS};
     int faults, i;
     for (faults = 0; faults < 128; faults++) {
-        struct lengths n = {32, 12, 256, 4112, 4096};
-        uint8_t wanted = 0, answer;
+        struct lengths n = longest_of(LONG_KEY);
+        uint8_t wanted = KHUMBUSEAL_DONE, answer;
+        size_t short_by = faults & 32 ? 1 : 0;
         if ((faults & 24) == 24)
             continue;
-        EXPECT("seal, to be opened", seal_of((struct lengths){32, 12, 256, 4096, 4112}), 0);
+        EXPECT("seal, to be opened", seal_of(n), KHUMBUSEAL_DONE);
         memcpy(sealed, out, ROOM);
+        n.text = KHUMBUSEAL_MAX_SEALED;
         if (faults & 1)
             n.key = 24;
         if (faults & 2)
-            n.nonce = 11;
+            n.nonce--;
         if (faults & 4)
-            n.ad = 257;
+            n.ad++;
         if (faults & 8)
-            n.text = 15;
+            n.text = KHUMBUSEAL_TAG_SIZE - 1;
         if (faults & 16)
-            n.text = 4113;
-        if (faults & 32)
-            n.out = n.text < 17 ? 0 : n.text - 17;
-        else
-            n.out = n.text < 16 ? 0 : n.text - 16;
+            n.text++;
+        n.out = n.text < KHUMBUSEAL_TAG_SIZE + short_by ? 0 : n.text - KHUMBUSEAL_TAG_SIZE - short_by;
         if (faults & 64)
-            sealed[4111] ^= 1;
+            sealed[KHUMBUSEAL_MAX_SEALED - 1] ^= 1;
         for (i = 6; i >= 0; i--)
             if (faults >> i & 1)
                 wanted = order[i];
@@ -130,42 +117,49 @@ static void test_open_refusals(void)
         if (wanted)
             EXPECT_ALL("open: refused", out, ROOM, UNTOUCHED);
         else
-            EXPECT_BYTES("open: 4,096 bytes", out, text, 4096);
+            EXPECT_BYTES("open: the longest text", out, text, KHUMBUSEAL_MAX_PLAINTEXT);
     }
 }
 
 /* Each byte of a sealed part damaged in turn: none opens, and nothing of it is written. */
 static void test_damage(void)
 {
-    const struct lengths n = {16, 12, 3, 37, 53};
+    enum { TEXT = 37, SEALED = TEXT + KHUMBUSEAL_TAG_SIZE, AD = 3 };
+    const struct lengths sealing = {SHORT_KEY, KHUMBUSEAL_NONCE_SIZE, AD, TEXT, SEALED};
+    struct lengths n = {SHORT_KEY, KHUMBUSEAL_NONCE_SIZE, AD, SEALED, TEXT};
     size_t at;
-    EXPECT("seal, to be damaged", seal_of(n), 0);
+    EXPECT("seal, to be damaged", seal_of(sealing), KHUMBUSEAL_DONE);
     memcpy(sealed, out, ROOM);
-    for (at = 0; at < 53; at++) {
+    for (at = 0; at < SEALED; at++) {
         sealed[at] ^= (uint8_t)(1 << at % 8);
-        EXPECT("open: damaged", open_of((struct lengths){16, 12, 3, 53, 37}), KHUMBUSEAL_TAG_DIFFERS);
+        EXPECT("open: damaged", open_of(n), KHUMBUSEAL_TAG_DIFFERS);
         EXPECT_ALL("open: damaged, refused", out, ROOM, UNTOUCHED);
         sealed[at] ^= (uint8_t)(1 << at % 8);
     }
-    EXPECT("open: made good again", open_of((struct lengths){16, 12, 3, 53, 37}), 0);
-    EXPECT("open: less associated data", open_of((struct lengths){16, 12, 2, 53, 37}), KHUMBUSEAL_TAG_DIFFERS);
-    EXPECT("open: a part of 16 bytes is tried", open_of((struct lengths){16, 12, 3, 16, 0}), KHUMBUSEAL_TAG_DIFFERS);
-    EXPECT("open: more room than needed", open_of((struct lengths){16, 12, 3, 53, 100}), 0);
-    EXPECT_ALL("open: bytes behind", out + 37, ROOM - 37, UNTOUCHED);
+    EXPECT("open: made good again", open_of(n), KHUMBUSEAL_DONE);
+    n.ad--;
+    EXPECT("open: less associated data", open_of(n), KHUMBUSEAL_TAG_DIFFERS);
+    n.ad++;
+    n.out = 100;
+    EXPECT("open: more room than needed", open_of(n), KHUMBUSEAL_DONE);
+    EXPECT_ALL("open: bytes behind", out + TEXT, ROOM - TEXT, UNTOUCHED);
+    n.text = KHUMBUSEAL_TAG_SIZE;
+    EXPECT("open: a part that is a tag alone is tried", open_of(n), KHUMBUSEAL_TAG_DIFFERS);
 }
 
 /* With length 0 a pointer is not read. */
 static void test_null(void)
 {
     /* RFC 8452 appendix C.1, its first line */
-    uint8_t key[16] = {1}, nonce[12] = {3};
+    uint8_t key[SHORT_KEY] = {1}, nonce[KHUMBUSEAL_NONCE_SIZE] = {3};
+    const size_t n = sizeof nonce, tag = KHUMBUSEAL_TAG_SIZE;
     untouch();
-    EXPECT("seal nothing", khumbuseal_seal(key, 16, nonce, 12, NULL, 0, NULL, 0, out, 16), 0);
+    EXPECT("seal nothing", khumbuseal_seal(key, sizeof key, nonce, n, NULL, 0, NULL, 0, out, tag), KHUMBUSEAL_DONE);
     EXPECT_HEX("sealed nothing", out, "dc20e2d83f25705bb49e439eca56de25");
-    EXPECT("open nothing", khumbuseal_open(key, 16, nonce, 12, NULL, 0, out, 16, NULL, 0), 0);
-    EXPECT("no key", khumbuseal_seal(NULL, 0, nonce, 12, NULL, 0, NULL, 0, out, 16), KHUMBUSEAL_KEY_LENGTH);
-    EXPECT("no nonce", khumbuseal_seal(key, 16, NULL, 0, NULL, 0, NULL, 0, out, 16), KHUMBUSEAL_NONCE_LENGTH);
-    EXPECT("no room", khumbuseal_seal(key, 16, nonce, 12, NULL, 0, NULL, 0, NULL, 0), KHUMBUSEAL_NO_ROOM);
+    EXPECT("open nothing", khumbuseal_open(key, sizeof key, nonce, n, NULL, 0, out, tag, NULL, 0), KHUMBUSEAL_DONE);
+    EXPECT("no key", khumbuseal_seal(NULL, 0, nonce, n, NULL, 0, NULL, 0, out, tag), KHUMBUSEAL_KEY_LENGTH);
+    EXPECT("no nonce", khumbuseal_seal(key, sizeof key, NULL, 0, NULL, 0, NULL, 0, out, tag), KHUMBUSEAL_NONCE_LENGTH);
+    EXPECT("no room", khumbuseal_seal(key, sizeof key, nonce, n, NULL, 0, NULL, 0, NULL, 0), KHUMBUSEAL_NO_ROOM);
 }
 
 void test_sealing(void)

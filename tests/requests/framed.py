@@ -5,6 +5,10 @@ import limits
 from sealed import WRONG_KEY_LENGTHS, WRONG_NONCE_LENGTHS, around, sealed_part, some_cipher_key
 from values import Group, damaged_everywhere, line, subsets
 
+TAG = 16
+OVERHEAD = frames.HEADER + TAG
+TEXT_LEAST, TEXT_MOST = frames.PLAINTEXT[frames.TEXT]
+NO_KINDS = (0, max(frames.PLAINTEXT) + 1, 255)
 FIELDS = (frames.LATITUDE, frames.LONGITUDE, frames.ALTITUDE)
 INT_LEAST, INT_GREATEST = -(1 << 31), (1 << 31) - 1
 TIMES = (0, 1, (1 << 31) - 1, 1 << 31, (1 << 32) - 1)
@@ -47,14 +51,14 @@ def some_plaintext(kind, rng):
     if kind == frames.POSITION:
         return some_position(rng)
     if kind == frames.TEXT:
-        return rng.randbytes(rng.choice([1, 2, 15, 16, 17, 159, 160, rng.randrange(1, 161)]))
+        return rng.randbytes(rng.choice([TEXT_LEAST, TEXT_LEAST + 1, 15, 16, 17, TEXT_MOST - 1, TEXT_MOST, rng.randint(TEXT_LEAST, TEXT_MOST)]))
     return b""
 
 
 # ---- whole frames, made here so that frames that writing refuses can be made too
 
 def frame(kind, key, nonce, plaintext):
-    associated = bytes([frames.MARK, kind]) + (len(plaintext) + 16).to_bytes(2, "little")
+    associated = bytes([frames.MARK, kind]) + (len(plaintext) + TAG).to_bytes(2, "little")
     return associated + nonce + sealed_part(key, nonce, associated, plaintext)
 
 
@@ -67,7 +71,9 @@ def with_length(data, length):
     return data[:2] + length.to_bytes(2, "little") + data[4:]
 
 
-SEALED_LENGTHS = (0, 1, *around(16, 32, 176, 256, 336, 512), 32 + 256, 16 + 32768, 65535)
+# around the ends of every kind's lengths, and around what their low bytes alone could be taken for
+KIND_ENDS = sorted({end + TAG for ends in frames.PLAINTEXT.values() for end in ends})
+SEALED_LENGTHS = (0, 1, *around(*KIND_ENDS, 256, 336, 512), 32 + 256, 16 + 32768, 65535)
 
 
 def broken_fronts(rng):
@@ -96,17 +102,17 @@ def write_edges(rng):
     for kind in range(256):
         yield write_line(kind, key, nonce, rng.randbytes(kind % 3), 40)
     for kind in frames.PLAINTEXT:
-        for n in (*range(18), 32, *around(160, 176), 4096, 4097):
+        for n in (*range(18), 32, *around(TEXT_MOST, TEXT_MOST + TAG), *around(limits.MAX_PLAINTEXT)[1:]):
             plaintext = some_position(rng)[:n].ljust(n, b"\0") if kind == frames.POSITION else rng.randbytes(n)
-            yield write_line(kind, some_cipher_key(rng), nonce, plaintext, n + 32)
+            yield write_line(kind, some_cipher_key(rng), nonce, plaintext, n + OVERHEAD)
         plaintext = some_plaintext(kind, rng)
-        for room in (0, 16, len(plaintext) + 16, *around(len(plaintext) + 32), 70_000):
+        for room in (0, 16, len(plaintext) + TAG, *around(len(plaintext) + OVERHEAD), 70_000):
             yield write_line(kind, key, nonce, plaintext, room)
     for plaintext in edge_positions():
-        yield write_line(frames.POSITION, key, nonce, plaintext, 48)
+        yield write_line(frames.POSITION, key, nonce, plaintext, len(plaintext) + OVERHEAD)
     for n in range(67):
-        yield write_line(frames.CHECK_IN, rng.randbytes(n), nonce, b"", 32)
-        yield write_line(frames.CHECK_IN, key, rng.randbytes(n), b"", 32)
+        yield write_line(frames.CHECK_IN, rng.randbytes(n), nonce, b"", OVERHEAD)
+        yield write_line(frames.CHECK_IN, key, rng.randbytes(n), b"", OVERHEAD)
     yield from write_refusals(rng)
 
 
@@ -118,19 +124,19 @@ def write_refusals(rng):
             if "range" in faults and kind == frames.POSITION:
                 plaintext = bad_position(rng)
             if "length" in faults:
-                plaintext = rng.randbytes(rng.choice([17, 170])) if kind != frames.TEXT else rng.randbytes(161)
+                plaintext = rng.randbytes(rng.choice([17, 170])) if kind != frames.TEXT else rng.randbytes(TEXT_MOST + 1)
             yield write_line(
-                rng.choice([0, 4, 255]) if "kind" in faults else kind,
+                rng.choice(NO_KINDS) if "kind" in faults else kind,
                 rng.randbytes(rng.choice(WRONG_KEY_LENGTHS)) if "key" in faults else some_cipher_key(rng),
                 rng.randbytes(rng.choice(WRONG_NONCE_LENGTHS)) if "nonce" in faults else rng.randbytes(12),
                 plaintext,
-                len(plaintext) + (31 if "room" in faults else 32))
+                len(plaintext) + OVERHEAD - ("room" in faults))
 
 
 def write_draw(rng):
     kind = rng.choice(list(frames.PLAINTEXT))
     plaintext = bad_position(rng) if kind == frames.POSITION and rng.random() < 0.3 else some_plaintext(kind, rng)
-    room = len(plaintext) + 32 + (rng.randrange(-3, 30) if rng.random() < 0.3 else 0)
+    room = len(plaintext) + OVERHEAD + (rng.randrange(-3, 30) if rng.random() < 0.3 else 0)
     return write_line(kind, some_cipher_key(rng), rng.randbytes(12), plaintext, room)
 
 
@@ -152,7 +158,7 @@ def read_edges(rng):
     key = rng.randbytes(32)
     for plaintext in edge_positions():
         yield read_line(key, frame(frames.POSITION, key, rng.randbytes(12), plaintext), 16)
-    for n in range(1, 161):
+    for n in range(TEXT_LEAST, TEXT_MOST + 1):
         yield read_line(key, frame(frames.TEXT, key, rng.randbytes(12), rng.randbytes(n)), n + n % 2)
     for key, broken in broken_fronts(rng):
         yield read_line(key, broken, 400)
@@ -181,9 +187,9 @@ def read_refusals(rng):
         if "tag" in faults:
             data = data[:-1] + bytes([data[-1] ^ 1])
         if "length" in faults:
-            data = with_length(data, rng.choice([16, 31, 33, 176]))
+            data = with_length(data, rng.choice([TAG, 31, 33, TEXT_MOST + TAG]))
         if "kind" in faults:
-            data = data[:1] + bytes([rng.choice([0, 4, 255])]) + data[2:]
+            data = data[:1] + bytes([rng.choice(NO_KINDS)]) + data[2:]
         if "mark" in faults:
             data = bytes([rng.choice([0, 0x4A, 0x6B])]) + data[1:]
         if "cut" in faults:

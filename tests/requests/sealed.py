@@ -49,7 +49,7 @@ def seal_edges(rng):
         key = rng.randbytes(size)
         for n in text_lengths():
             yield seal_line(key, nonce, rng.randbytes(n % 20), rng.randbytes(n), n + 16 + n % 3)
-        for n in (*SHORT_LENGTHS, *around(limits.MAX_DATA)):
+        for n in (*SHORT_LENGTHS, *around(limits.MAX_AD)):
             yield seal_line(key, nonce, rng.randbytes(n), rng.randbytes(n % 20), 40)
         for n in (0, 1, 16, 20):
             for room in (0, n, *around(n + 16), 70_000):
@@ -69,14 +69,14 @@ def seal_refusals(rng):
         yield seal_line(
             rng.randbytes(rng.choice(WRONG_KEY_LENGTHS)) if "key" in faults else some_cipher_key(rng),
             rng.randbytes(rng.choice(WRONG_NONCE_LENGTHS)) if "nonce" in faults else rng.randbytes(12),
-            rng.randbytes(limits.MAX_DATA + 1) if "data" in faults else rng.randbytes(3),
+            rng.randbytes(limits.MAX_AD + 1) if "data" in faults else rng.randbytes(3),
             plaintext,
             len(plaintext) + (15 if "room" in faults else 16))
 
 
 def seal_draw(rng):
     plaintext = some_bytes(rng, 400)
-    data = rng.randbytes(some_length(rng, limits.MAX_DATA + 4))
+    data = rng.randbytes(some_length(rng, limits.MAX_AD + 4))
     room = rng.choice([len(plaintext) + 16, len(plaintext) + 16 + rng.randrange(40), rng.randrange(200)])
     return seal_line(some_cipher_key(rng), rng.randbytes(12), data, plaintext, room)
 
@@ -92,7 +92,7 @@ def open_edges(rng):
             part = sealed_part(key, nonce, b"", rng.randbytes(n))
             for room in (*range(n), n, n + 1, 70_000):
                 yield open_line(key, nonce, b"", part, room)
-        for n in (*SHORT_LENGTHS, *around(limits.MAX_DATA)):
+        for n in (*SHORT_LENGTHS, *around(limits.MAX_AD)):
             data = rng.randbytes(n)
             yield open_line(key, nonce, data, sealed_part(key, nonce, data, b"seen"), 4)
     yield from open_refusals(rng)
@@ -126,7 +126,7 @@ def open_refusals(rng):
             continue
         key, nonce, data = some_cipher_key(rng), rng.randbytes(12), rng.randbytes(3)
         if "data" in faults:
-            data = rng.randbytes(limits.MAX_DATA + 1)
+            data = rng.randbytes(limits.MAX_AD + 1)
         part = sealed_part(key, nonce, data, rng.randbytes(limits.MAX_PLAINTEXT + 1 if "long" in faults else 5))
         if "tag" in faults:
             part = part[:-1] + bytes([part[-1] ^ 1])
@@ -141,7 +141,7 @@ def open_refusals(rng):
 
 
 def open_draw(rng):
-    key, nonce, data = some_cipher_key(rng), rng.randbytes(12), rng.randbytes(some_length(rng, limits.MAX_DATA))
+    key, nonce, data = some_cipher_key(rng), rng.randbytes(12), rng.randbytes(some_length(rng, limits.MAX_AD))
     part = sealed_part(key, nonce, data, some_bytes(rng, 400))
     if rng.random() < 0.3:
         part = rng.choice(damaged_everywhere(part, rng))

@@ -81,7 +81,7 @@ def dot(a, b):
     return result
 
 
-# ---- the R/F route: document 01, "The R/F product"
+# ---- the R/F route: document 01, port order 5
 
 def words(a):
     """The low and the high word of an element: M0 and M1 in the formulas."""

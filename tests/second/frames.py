@@ -53,7 +53,7 @@ def front(data):
     if len(data) < 1:
         return limits.CUT_SHORT, 0
     if data[0] != MARK:
-        return limits.FIRST_BYTE, 0
+        return limits.NOT_A_FRAME, 0
     if len(data) < 2:
         return limits.CUT_SHORT, 0
     if data[1] not in PLAINTEXT:
@@ -62,7 +62,7 @@ def front(data):
         return limits.CUT_SHORT, 0
     sealed = int.from_bytes(data[2:4], "little")
     if not length_allowed(data[1], sealed - 16):
-        return limits.LENGTH_NOT_ALLOWED, 0
+        return limits.LENGTH_FOR_KIND, 0
     if len(data) < HEADER + sealed:
         return limits.CUT_SHORT, 0
     return limits.DONE, sealed
@@ -74,7 +74,7 @@ def write(kind, key, nonce, plaintext, room):
     if kind not in PLAINTEXT:
         return limits.UNKNOWN_KIND, b""
     if not length_allowed(kind, len(plaintext)):
-        return limits.LENGTH_NOT_ALLOWED, b""
+        return limits.LENGTH_FOR_KIND, b""
     if bad_position(kind, plaintext):
         return limits.OUT_OF_RANGE, b""
     associated = bytes([MARK, kind]) + (len(plaintext) + 16).to_bytes(2, "little")

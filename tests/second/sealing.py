@@ -44,8 +44,8 @@ def refusal_of_inputs(key, nonce, data):
         return limits.KEY_LENGTH
     if len(nonce) != limits.NONCE:
         return limits.NONCE_LENGTH
-    if len(data) > limits.MAX_DATA:
-        return limits.DATA_TOO_LONG
+    if len(data) > limits.MAX_AD:
+        return limits.AD_TOO_LONG
     return limits.DONE
 
 
@@ -57,7 +57,7 @@ def seal(key, nonce, data, plaintext, room):
     if len(plaintext) > limits.MAX_PLAINTEXT:
         return limits.TEXT_TOO_LONG, b""
     if room < len(plaintext) + 16:
-        return limits.OUTPUT_TOO_SMALL, b""
+        return limits.NO_ROOM, b""
     hash_key, cipher_key = derive(key, nonce)
     tag = tag_of(hash_key, cipher_key, nonce, data, plaintext)
     return limits.DONE, counter_mode(cipher_key, tag, plaintext) + tag
@@ -73,7 +73,7 @@ def open_sealed(key, nonce, data, sealed, room):
     if len(sealed) > limits.MAX_SEALED:
         return limits.TEXT_TOO_LONG, b""
     if room < len(sealed) - 16:
-        return limits.OUTPUT_TOO_SMALL, b""
+        return limits.NO_ROOM, b""
     hash_key, cipher_key = derive(key, nonce)
     ciphertext, tag = sealed[:-16], sealed[-16:]
     plaintext = counter_mode(cipher_key, tag, ciphertext)

@@ -1,19 +1,35 @@
 //! Frames: positions, texts and check-ins, sealed; what stands at the front of a log, and its scan.
 
+use core::ops::RangeInclusive;
+
 use crate::ffi;
 use crate::refusal::{done, Refusal};
 
+/// The byte that a frame begins with.
+pub const MARK: u8 = 0x4B;
 /// The longest plaintext of a frame: so much room is enough for [`frame_read`].
 pub const MAX_FRAME_PLAINTEXT: usize = 160;
+/// The longest frame: so much room is enough for [`frame_write`].
+pub const MAX_FRAME: usize = 192;
+/// What a frame has besides its plaintext: 16 bytes in front, and the tag.
+pub const FRAME_OVERHEAD: usize = 32;
+/// The bytes of a position, which are the plaintext of its frame.
+pub const POSITION_SIZE: usize = 16;
+/// The latitudes that a frame may hold, in 10^-7 degree.
+pub const LATITUDES: RangeInclusive<i32> = -900_000_000..=900_000_000;
+/// The longitudes that a frame may hold, in 10^-7 degree.
+pub const LONGITUDES: RangeInclusive<i32> = -1_800_000_000..=1_800_000_000;
+/// The altitudes that a frame may hold, in cm.
+pub const ALTITUDES: RangeInclusive<i32> = -50_000..=1_000_000;
 
 /// A position in the units that a frame holds.
 #[derive(Clone, Copy, Debug, PartialEq, Eq)]
 pub struct Position {
-    /// Latitude in 10^-7 degree, -900,000,000 to 900,000,000.
+    /// Latitude in 10^-7 degree: one of [`LATITUDES`].
     pub lat: i32,
-    /// Longitude in 10^-7 degree, -1,800,000,000 to 1,800,000,000.
+    /// Longitude in 10^-7 degree: one of [`LONGITUDES`].
     pub lon: i32,
-    /// Altitude in cm, -50,000 to 1,000,000.
+    /// Altitude in cm: one of [`ALTITUDES`].
     pub alt: i32,
     /// Time in seconds.
     pub time: u32,
@@ -21,15 +37,15 @@ pub struct Position {
 
 impl Position {
     /// The sixteen bytes of the position, in range or not.
-    pub fn to_bytes(self) -> [u8; 16] {
-        let mut bytes = [0; 16];
+    pub fn to_bytes(self) -> [u8; POSITION_SIZE] {
+        let mut bytes = [0; POSITION_SIZE];
         // SAFETY: bytes has the size that the call writes.
         unsafe { ffi::khumbuseal_position_to_bytes(self.lat, self.lon, self.alt, self.time, bytes.as_mut_ptr()) }
         bytes
     }
 
     /// The position that sixteen bytes spell, in range or not.
-    pub fn from_bytes(bytes: &[u8; 16]) -> Position {
+    pub fn from_bytes(bytes: &[u8; POSITION_SIZE]) -> Position {
         let mut p = Position { lat: 0, lon: 0, alt: 0, time: 0 };
         // SAFETY: bytes has the size that the call reads; the four cells are apart.
         unsafe { ffi::khumbuseal_position_from_bytes(bytes.as_ptr(), &mut p.lat, &mut p.lon, &mut p.alt, &mut p.time) }

@@ -6,8 +6,12 @@ use crate::sealing::TAG_SIZE;
 
 /// The bytes of a hash record.
 pub const RECORD_SIZE: usize = 168;
+/// The bytes of the stored key, at the front of a hash record.
+pub const STORED_KEY_SIZE: usize = 128;
 /// The bytes of a GHASH record.
 pub const GHASH_RECORD_SIZE: usize = 32;
+/// The bytes of a key of hashing.
+pub const HASH_KEY_SIZE: usize = 16;
 
 /// How a hash is computed. The routes differ in time alone, where [`Hash::key_belongs`].
 #[derive(Clone, Copy, Debug, PartialEq, Eq)]

@@ -34,7 +34,10 @@ mod hashing;
 mod refusal;
 mod sealing;
 
-pub use frames::{frame_front, frame_read, frame_write, scan, Kind, Message, Position, Scan, MAX_FRAME_PLAINTEXT};
-pub use hashing::{ghash, Ghash, Hash, Route, GHASH_RECORD_SIZE, RECORD_SIZE};
+pub use frames::{frame_front, frame_read, frame_write, scan, Kind, Message, Position, Scan};
+pub use frames::{
+    ALTITUDES, FRAME_OVERHEAD, LATITUDES, LONGITUDES, MARK, MAX_FRAME, MAX_FRAME_PLAINTEXT, POSITION_SIZE,
+};
+pub use hashing::{ghash, Ghash, Hash, Route, GHASH_RECORD_SIZE, HASH_KEY_SIZE, RECORD_SIZE, STORED_KEY_SIZE};
 pub use refusal::Refusal;
-pub use sealing::{open, seal, MAX_AD, MAX_PLAINTEXT, NONCE_SIZE, TAG_SIZE};
+pub use sealing::{open, seal, MAX_AD, MAX_PLAINTEXT, MAX_SEALED, NONCE_SIZE, TAG_SIZE};

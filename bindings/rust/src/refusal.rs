@@ -12,7 +12,8 @@ pub enum Refusal {
     NotWholeBlocks = 3,
     /// The associated data is over [`MAX_AD`](crate::MAX_AD).
     AdTooLong = 4,
-    /// The plaintext is over [`MAX_PLAINTEXT`](crate::MAX_PLAINTEXT), or the sealed part over that and 16.
+    /// The plaintext is over [`MAX_PLAINTEXT`](crate::MAX_PLAINTEXT), or the sealed part over
+    /// [`MAX_SEALED`](crate::MAX_SEALED).
     TextTooLong = 5,
     /// The sealed part is under 16 bytes.
     SealedTooShort = 6,

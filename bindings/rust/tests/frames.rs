@@ -4,6 +4,9 @@ mod common;
 
 use common::unhex;
 use khumbuseal::{frame_front, frame_read, frame_write, scan, seal, Kind, Message, Position, Refusal, Scan};
+use khumbuseal::{
+    ALTITUDES, FRAME_OVERHEAD, LATITUDES, LONGITUDES, MARK, MAX_FRAME, MAX_FRAME_PLAINTEXT, POSITION_SIZE,
+};
 
 /// Buffers are filled with this byte, so that one which a call should have left alone shows.
 const UNTOUCHED: u8 = 0xA5;
@@ -42,25 +45,25 @@ fn frames_are_written_and_read() {
         assert_eq!(frame_write(&message, &key()[..key_len], &nonce(), &mut out).unwrap(), frame);
         assert!(out[frame.len()..].iter().all(|&b| b == UNTOUCHED));
         let followed = [&frame[..], b"more"].concat();
-        let mut out = [UNTOUCHED; 160];
+        let mut out = [UNTOUCHED; MAX_FRAME_PLAINTEXT];
         assert_eq!(frame_read(&key()[..key_len], &followed, &mut out), Ok((message, frame.len())));
         for cut in 0..frame.len() {
-            let mut out = [UNTOUCHED; 160];
+            let mut out = [UNTOUCHED; MAX_FRAME_PLAINTEXT];
             assert_eq!(frame_read(&key()[..key_len], &frame[..cut], &mut out), Err(Refusal::CutShort));
-            assert_eq!(out, [UNTOUCHED; 160]);
+            assert_eq!(out, [UNTOUCHED; MAX_FRAME_PLAINTEXT]);
         }
         for at in 4..frame.len() {
-            let (mut damaged, mut out) = (frame.clone(), [UNTOUCHED; 160]);
+            let (mut damaged, mut out) = (frame.clone(), [UNTOUCHED; MAX_FRAME_PLAINTEXT]);
             damaged[at] ^= 1;
             assert_eq!(frame_read(&key()[..key_len], &damaged, &mut out), Err(Refusal::TagDiffers));
-            assert_eq!(out, [UNTOUCHED; 160]);
+            assert_eq!(out, [UNTOUCHED; MAX_FRAME_PLAINTEXT]);
         }
     }
 }
 
 #[test]
 fn writing_refuses_in_order() {
-    let far = Message::Position(Position { alt: 1_000_001, ..HERE });
+    let far = Message::Position(Position { alt: ALTITUDES.end() + 1, ..HERE });
     let mut out = [UNTOUCHED; 300];
     let mut write = |message: &Message, key_len: usize, nonce: &[u8], room: usize| {
         let refusal = frame_write(message, &key()[..key_len], nonce, &mut out[..room]).err();
@@ -68,33 +71,44 @@ fn writing_refuses_in_order() {
         refusal
     };
     assert_eq!(write(&Message::Text(&[]), 15, &[], 0), Some(Refusal::LengthForKind));
-    assert_eq!(write(&Message::Text(&[0; 161]), 15, &[], 0), Some(Refusal::LengthForKind));
+    assert_eq!(write(&Message::Text(&[0; MAX_FRAME_PLAINTEXT + 1]), 15, &[], 0), Some(Refusal::LengthForKind));
     assert_eq!(write(&far, 15, &[], 0), Some(Refusal::OutOfRange));
-    assert_eq!(write(&Message::Text(&[0; 160]), 15, &[], 0), Some(Refusal::KeyLength));
+    assert_eq!(write(&Message::Text(&[0; MAX_FRAME_PLAINTEXT]), 15, &[], 0), Some(Refusal::KeyLength));
     assert_eq!(write(&Message::Position(HERE), 32, &[], 0), Some(Refusal::NonceLength));
-    assert_eq!(write(&Message::CheckIn, 32, &nonce(), 31), Some(Refusal::NoRoom));
+    assert_eq!(write(&Message::CheckIn, 32, &nonce(), FRAME_OVERHEAD - 1), Some(Refusal::NoRoom));
 }
 
 #[test]
 fn reading_refuses_in_order() {
-    let order = [9, 10, 11, 12, 1, 7, 8, 13];
+    let order = [
+        Refusal::NotAFrame,
+        Refusal::UnknownKind,
+        Refusal::LengthForKind,
+        Refusal::CutShort,
+        Refusal::KeyLength,
+        Refusal::NoRoom,
+        Refusal::TagDiffers,
+        Refusal::OutOfRange,
+    ];
+    let front = [MARK, Kind::Position as u8, 32, 0];
     for faults in 0..256usize {
         let has = |fault: usize| faults >> fault & 1 == 1;
-        let there = Position { alt: 1_000_000 + i32::from(has(7)), ..HERE };
-        let mut frame = [&[0x4B, 1, 32, 0], &nonce()[..], &[0; 32]].concat();
-        seal(&key(), &nonce(), &[0x4B, 1, 32, 0], &there.to_bytes(), &mut frame[16..]).unwrap();
-        frame[47] ^= u8::from(has(6));
+        let there = Position { alt: ALTITUDES.end() + i32::from(has(7)), ..HERE };
+        let mut frame = [&front, &nonce()[..], &[0; 32]].concat();
+        seal(&key(), &nonce(), &front, &there.to_bytes(), &mut frame[16..]).unwrap();
+        *frame.last_mut().unwrap() ^= u8::from(has(6));
         frame[2] += u8::from(has(2));
-        frame[1] = if has(1) { 4 } else { 1 };
+        frame[1] = if has(1) { Kind::CheckIn as u8 + 1 } else { Kind::Position as u8 };
         frame[0] -= u8::from(has(0));
-        let mut out = [UNTOUCHED; 16];
-        let data = &frame[..48 - usize::from(has(3))];
-        let given = frame_read(&key()[..if has(4) { 31 } else { 32 }], data, &mut out[..16 - usize::from(has(5))]);
+        let mut out = [UNTOUCHED; POSITION_SIZE];
+        let data = &frame[..frame.len() - usize::from(has(3))];
+        let room = POSITION_SIZE - usize::from(has(5));
+        let given = frame_read(&key()[..if has(4) { 31 } else { 32 }], data, &mut out[..room]);
         match order.iter().enumerate().find(|(fault, _)| has(*fault)) {
-            None => assert_eq!(given, Ok((Message::Position(there), 48))),
-            Some((_, &number)) => {
-                assert_eq!(given, Err(Refusal::from_number(number).unwrap()));
-                assert_eq!(out, [UNTOUCHED; 16]);
+            None => assert_eq!(given, Ok((Message::Position(there), POSITION_SIZE + FRAME_OVERHEAD))),
+            Some((_, &refusal)) => {
+                assert_eq!(given, Err(refusal));
+                assert_eq!(out, [UNTOUCHED; POSITION_SIZE]);
             }
         }
     }
@@ -108,14 +122,15 @@ fn fronts_of_document_01() {
         frame_front(&data)
     };
     assert_eq!(front(&[], 0), Err(Refusal::CutShort));
-    assert_eq!(front(&[0x4A], 1), Err(Refusal::NotAFrame));
-    assert_eq!(front(&[0x4B], 1), Err(Refusal::CutShort));
-    assert_eq!(front(&[0x4B, 0], 2), Err(Refusal::UnknownKind));
-    assert_eq!(front(&[0x4B, 2, 177, 0], 4), Err(Refusal::LengthForKind));
-    assert_eq!(front(&[0x4B, 2, 176, 0], 191), Err(Refusal::CutShort));
-    assert_eq!(front(&[0x4B, 2, 176, 0], 192), Ok((Kind::Text, 192)));
-    assert_eq!(front(&[0x4B, 1, 32, 0], 48), Ok((Kind::Position, 48)));
-    assert_eq!(front(&[0x4B, 3, 16, 0], 100), Ok((Kind::CheckIn, 32)));
+    let [position, text, check_in] = [Kind::Position as u8, Kind::Text as u8, Kind::CheckIn as u8];
+    assert_eq!(front(&[MARK - 1], 1), Err(Refusal::NotAFrame));
+    assert_eq!(front(&[MARK], 1), Err(Refusal::CutShort));
+    assert_eq!(front(&[MARK, 0], 2), Err(Refusal::UnknownKind));
+    assert_eq!(front(&[MARK, text, 177, 0], 4), Err(Refusal::LengthForKind));
+    assert_eq!(front(&[MARK, text, 176, 0], MAX_FRAME - 1), Err(Refusal::CutShort));
+    assert_eq!(front(&[MARK, text, 176, 0], MAX_FRAME), Ok((Kind::Text, MAX_FRAME)));
+    assert_eq!(front(&[MARK, position, 32, 0], 48), Ok((Kind::Position, 48)));
+    assert_eq!(front(&[MARK, check_in, 16, 0], 100), Ok((Kind::CheckIn, FRAME_OVERHEAD)));
 }
 
 #[test]
@@ -141,12 +156,12 @@ fn positions_keep_their_signs() {
             false,
         ),
         (
-            Position { lat: -900_000_000, lon: -1_800_000_000, alt: -50_000, time: u32::MAX },
+            Position { lat: *LATITUDES.start(), lon: *LONGITUDES.start(), alt: *ALTITUDES.start(), time: u32::MAX },
             "00175bca002eb694b03cffffffffffff",
             true,
         ),
         (
-            Position { lat: 900_000_000, lon: 1_800_000_000, alt: 1_000_000, time: 0 },
+            Position { lat: *LATITUDES.end(), lon: *LONGITUDES.end(), alt: *ALTITUDES.end(), time: 0 },
             "00e9a43500d2496b40420f0000000000",
             true,
         ),

@@ -3,12 +3,12 @@
 mod common;
 
 use common::unhex;
-use khumbuseal::{ghash, Ghash, Hash, Refusal, Route, RECORD_SIZE};
+use khumbuseal::{ghash, Ghash, Hash, Refusal, Route, HASH_KEY_SIZE, RECORD_SIZE, STORED_KEY_SIZE};
 
 const ROUTES: [Route; 3] = [Route::Wide, Route::Narrow, Route::Rf];
 
-/// Where a record has the count of its pending bytes.
-const COUNT: usize = 160;
+/// Where a record has the count of its pending bytes: behind the key, the sum and the pending store.
+const COUNT: usize = STORED_KEY_SIZE + 32;
 
 fn h() -> Vec<u8> {
     unhex("25629347589242761d31f826ba4b757b")
@@ -67,7 +67,7 @@ fn the_unit_and_the_zero_key() {
 
 #[test]
 fn a_refused_call_yields_nothing_and_leaves_the_record() {
-    for size in (0..40).filter(|&size| size != 16) {
+    for size in (0..40).filter(|&size| size != HASH_KEY_SIZE) {
         assert_eq!(Hash::start(&[1; 40][..size]).err(), Some(Refusal::KeyLength));
     }
     for route in ROUTES {
@@ -106,7 +106,7 @@ fn whether_the_stored_key_belongs() {
     for at in 0..RECORD_SIZE {
         let mut bytes = right;
         bytes[at] ^= 4;
-        assert_eq!(Hash::from_bytes(bytes).key_belongs(), at >= 128);
+        assert_eq!(Hash::from_bytes(bytes).key_belongs(), at >= STORED_KEY_SIZE);
     }
     assert!(Hash::from_bytes([0; RECORD_SIZE]).key_belongs());
 }
@@ -138,5 +138,5 @@ fn ghash_of_appendix_a() {
     let mut parts = Ghash::from_bytes(*parts.as_bytes());
     parts.feed_padded(&x()[16..]);
     assert_eq!(parts.finish().to_vec(), tag);
-    assert_eq!(Ghash::start(&[0; 17]).err(), Some(Refusal::KeyLength));
+    assert_eq!(Ghash::start(&[0; HASH_KEY_SIZE + 1]).err(), Some(Refusal::KeyLength));
 }

@@ -1,23 +1,19 @@
--- Laws of the key expansion: the copy of a word, the cases of `temp`, a turn of the loop. Assumes nothing.
+-- Laws of the key expansion: the cases of `temp`, a turn of the loop. Assumes nothing.
 use mathlib.Core.Path.{_≡_, sym, ap, ap₂, _∙_, subst⁻¹}
 use mathlib.Core.List.{List, [], _∷_, _++_, append-assoc}
 use Prim.Native.Nat.{ℕ, suc, _+_, _-_, _*_, _/_, _%_, _≤_, _<_}
 use native.Mathlib.Omega.{arith}
-use native.Mathlib.Numerals.{add-one}
-use lib.ListN.{length, getD, set, take, drop, length-append}
-use lib.Seq.{paste, paste-suc, take-length, take-at, length-take-le, getD-take}
+use lib.ListN.{length, take, drop, length-append}
+use lib.Seq.{take-at, length-take-le, getD-take}
 use borrow.Author.Tests.{eq-eqb, ne-eqb, lt-ltb, le-ltb}
 use Rattle.octets.specs.Xor.{_⊕_}
+use Rattle.octets.specs.Places.{placed, Puts}
+use Rattle.octets.specs.Strings.{copied}
+use Rattle.octets.proofs.Copies.{copied-fits}
+use Rattle.octets.proofs.Places.{put-wrote}
 use Rattle.fips197.specs.Field.{gmul}
 use Rattle.fips197.proofs.Field.{gmul-lt, double-law}
 use Rattle.fips197.specs.KeyExpansion.{sum, word, rotWord, subWord, rcon, power, temp, nextWord, expand, keyExpansion}
-
--- a turn of a loop that copies s to index at on, and its end
-pub copy-turn : (d s out : List ℕ) (at j v : ℕ) → out ≡ paste d at s j → at + j < length d → j < length s → v ≡ getD s j 0 → set out (at + j) v ≡ paste d at s (j + 1)
-copy-turn d s out at j v e hd hs ev = rw (e, ev, add-one) (paste-suc d at s j 0 hd hs)
-
-pub copied : (d s : List ℕ) (at j : ℕ) → j ≡ length s → paste d at s j ≡ take at d ++ (s ++ drop (at + length s) d)
-copied d s at j e = rw (e, append-assoc, take-length)
 
 -- a turn of the powers of x, and their end
 module _ (x k : ℕ) (h : x < 256) (e : x ≡ power (k - 1)) where
@@ -52,15 +48,17 @@ word-take w i k h = λ j.
     ∷ getD-take (4 * i) w (4 * k + 2) 0 (omega arith) j ∷ getD-take (4 * i) w (4 * k + 3) 0 (omega arith) j ∷ []
 
 -- a turn of the expansion, and its end
-pub expand-turn : (nk : ℕ) (key w w′ next : List ℕ) (i : ℕ) → 0 < nk → nk ≤ i → 4 * i + 4 ≤ length w → take (4 * i) w ≡ expand nk key (i - nk)
-    → next ≡ sum (word w (i - nk)) (temp nk i (word w (i - 1))) → w′ ≡ take (4 * i) w ++ (next ++ drop (4 * i + length next) w)
+pub expand-turn : (nk : ℕ) (key w w′ next : List ℕ) (i at : ℕ) → 0 < nk → nk ≤ i → 4 * i + 4 ≤ length w → take (4 * i) w ≡ expand nk key (i - nk)
+    → next ≡ sum (word w (i - nk)) (temp nk i (word w (i - 1))) → Puts w (4 * i) next w′ at
     → take (4 * (i + 1)) w′ ≡ expand nk key (i + 1 - nk)
 unfolding expand sum
-expand-turn nk key w w′ next i h hk hl e en ew =
+expand-turn nk key w w′ next i at h hk hl e en put =
     let t : List ℕ = take (4 * i) w in
     let n : nk + (i - nk) ≡ i = omega arith in
     let n′ : i + 1 - nk ≡ suc (i - nk) = omega arith in
-    let l : length (t ++ next) ≡ 4 * (i + 1) = length-append t next ∙ omega (arith, length-take-le (4 * i) w (omega arith), ap length en) in
+    let four : length next ≡ 4 = ap length en in
+    let l : length (t ++ next) ≡ 4 * (i + 1) = length-append t next ∙ omega (arith, length-take-le (4 * i) w (omega arith)) in
+    let ew : w′ ≡ placed w (4 * i) next = put-wrote (omega arith) put .out-is in
     let x : next ≡ nextWord nk t i = en ∙ ap₂ (λ (a b : List ℕ). sum a (temp nk i b)) (sym (word-take w i (i - nk) (omega arith))) (sym (word-take w i (i - 1) (omega arith))) in
     ap (take (4 * (i + 1))) (ew ∙ sym (append-assoc t next (drop (4 * i + length next) w)))
     ∙ take-at (t ++ next) (drop (4 * i + length next) w) (4 * (i + 1)) l ∙ ap (λ (a : List ℕ). t ++ a) x
@@ -71,8 +69,8 @@ unfolding expand
 expand-start nk key = let n : nk - nk ≡ 0 = omega arith in sym (ap (expand nk key) n)
 
 -- the key in front of a schedule's bytes d, and then its expansion
-pub schedule-law : (nk nr : ℕ) (key d w w′ : List ℕ) → length key ≡ 4 * nk → w ≡ take 0 d ++ (key ++ drop (0 + length key) d)
+pub schedule-law : (nk nr : ℕ) (key d w w′ : List ℕ) → length key ≡ 4 * nk → length key ≤ length d → w ≡ copied key d
     → w′ ≡ expand nk (take (4 * nk) w) (4 * (nr + 1) - nk) → w′ ≡ keyExpansion nk nr key
 unfolding keyExpansion
-schedule-law nk nr key d w w′ l e ew =
-    ew ∙ ap (λ (k : List ℕ). expand nk k (4 * (nr + 1) - nk)) (ap (take (4 * nk)) e ∙ take-at key (drop (0 + length key) d) (4 * nk) l)
+schedule-law nk nr key d w w′ l room e ew =
+    ew ∙ ap (λ (k : List ℕ). expand nk k (4 * (nr + 1) - nk)) (ap (take (4 * nk)) (e ∙ copied-fits key d room) ∙ take-at key (drop (length key) d) (4 * nk) l)

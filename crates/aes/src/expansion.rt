@@ -2,9 +2,9 @@
 use crate::Schedule128;
 use crate::Schedule256;
 ghost use mathlib.Core.Path.{_≡_};
-ghost use mathlib.Core.List.{[], _∷_, _++_};
+ghost use mathlib.Core.List.{[], _∷_};
 ghost use Prim.Native.Nat.{_+_, _-_, _*_, _≤_, _<_};
-ghost use lib.ListN.{length, take, drop};
+ghost use lib.ListN.{length, take};
 ghost use Rattle.fips197.specs.Sbox.{sbox, sboxTable};
 ghost use Rattle.fips197.specs.KeyExpansion as fips;
 
@@ -66,18 +66,6 @@ fn temp(t: [u8; 4], i: usize, nk: usize, table: &[u8; 256]) -> [u8; 4]
     t
 }
 
-// The bytes of src go to dst, from at on.
-fn put(dst: &mut [u8], at: usize, src: &[u8])
-    requires { ⌜ at + length (now src) ≤ length (now dst) ⌝ }
-    ensures { λ _. ⌜ now (dst .exit) ≡ take at (now (dst .entry)) ++ (now (src .entry) ++ drop (at + length (now (src .entry))) (now (dst .entry))) ⌝ }
-{
-    let mut j = 0;
-    while j < src.len() {
-        dst[at + j] = src[j];
-        j += 1;
-    }
-}
-
 // Makes the n words of w from the first nk, which are the key.
 fn expand(w: &mut [u8], nk: usize, n: usize)
     requires { ⌜ (0 < nk) × (nk ≤ n) × (length (now w) ≡ 4 * n) ⌝ }
@@ -87,7 +75,7 @@ fn expand(w: &mut [u8], nk: usize, n: usize)
     let mut i = nk;
     while i < n {
         let next = sum(word(w, i - nk), temp(word(w, i - 1), i, nk, &table));
-        put(w, 4 * i, &next);
+        octets::put(w, 4 * i, &next);
         i += 1;
     }
 }
@@ -97,7 +85,7 @@ pub fn expand128(key: [u8; 16]) -> Schedule128
     ensures { λ r. ⌜ r .bytes ≡ fips.keyExpansion 4 10 key ⌝ }
 {
     let mut w = [0u8; 176];
-    put(&mut w, 0, &key);
+    octets::copy(&key, &mut w);
     expand(&mut w, 4, 44);
     Schedule128 { bytes: w }
 }
@@ -107,7 +95,7 @@ pub fn expand256(key: [u8; 32]) -> Schedule256
     ensures { λ r. ⌜ r .bytes ≡ fips.keyExpansion 8 14 key ⌝ }
 {
     let mut w = [0u8; 240];
-    put(&mut w, 0, &key);
+    octets::copy(&key, &mut w);
     expand(&mut w, 8, 60);
     Schedule256 { bytes: w }
 }

@@ -1,4 +1,4 @@
-// The answers and the limits of document 01, each named once. specs/ names the same numbers for the
+// The answers of document 01, each named once. specs/ names the same numbers for the
 // contracts. Assumes nothing.
 
 // The call did what it was asked.

@@ -11,7 +11,7 @@ use Rattle.gf2.specs.Remainder.{remainder, remainderN, timesX}
 use Rattle.gf2.specs.Polyval.{dot, unit, modulus, xInv128}
 use Rattle.gf2.proofs.Dot.{unit-lt}
 use Rattle.rfc8452.specs.Machine.{run}
-use Rattle.rfc8452.proofs.Cases.{unit-key}
+use Rattle.rfc8452.proofs.PolyvalCases.{unit-key}
 use Rattle.field.specs.Element.{element}
 use Rattle.field.specs.Rf.{counted, companionOf, total, rPart, fPart, rfReduce, rfGroup}
 use Rattle.field.proofs.Element.{value-element}

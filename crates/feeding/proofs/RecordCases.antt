@@ -20,7 +20,7 @@ use Rattle.rfc8452.specs.Blocks.{blocksN, blocks}
 use Rattle.feeding.specs.Key.{keyOf, expansionCost, checkOf}
 use Rattle.rfc8452.proofs.Cut.{blocks-one}
 use Rattle.feeding.proofs.Check.{made-checks}
-use Rattle.rfc8452.proofs.Cases.{zero-key, unit-key}
+use Rattle.rfc8452.proofs.PolyvalCases.{zero-key, unit-key}
 use Rattle.feeding.proofs.KeyCases.{zero-belongs}
 use Rattle.feeding.specs.declared.Hash.{Hash}
 use Rattle.feeding.specs.Record.{zeroHash, holding, fedOr}

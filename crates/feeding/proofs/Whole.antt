@@ -130,6 +130,6 @@ module _ (key : List ℕ) (long : length key ≡ 16) (bytes : Bytes key) where
       ap₂ (λ x y. joinOf x y (length (message b) / 16) .hash) (parts-made a (w .0)) (parts-made b (w .1))
       ∙ join-parts (message a) (message b) (message-whole a (w .0)) (message-whole b (w .1))
 
-  -- "joining any list of whole-block parts, in any bracketing, is the hash of the whole"
+  -- joining any list of whole-block parts, in any bracketing, is the hash of the whole
   pub joined-whole : (p : Parts) (route : Route) → AllWhole p → hashOf key p ≡ wholeOf route (startOf key .hash) (message p) .hash
   joined-whole p route w = parts-made p w ∙ sym (fed-part route (message p) (message-whole p w) (message-bytes p w))

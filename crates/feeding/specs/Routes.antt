@@ -11,7 +11,7 @@ use Rattle.rfc8452.specs.Machine.{run}
 use Rattle.feeding.specs.Key.{hOf}
 use Rattle.feeding.specs.Formulas.{rfRun}
 
--- "on the R/F route the answer is what the formulas give on the stored values; the other routes read H alone", and count nothing
+-- "on the R/F route the answer is what the formulas below give on the stored values; the other routes read H alone", and count nothing
 abbrev pub absorbOn : Route → (sizes : List ℕ) → ExpandedKey → Counted → List ℕ → Counted
 absorbOn Wide sizes key held xs = counted (run (value (hOf key)) (value (held .element)) xs) (held .multiplies)
 absorbOn Narrow sizes key held xs = counted (run (value (hOf key)) (value (held .element)) xs) (held .multiplies)

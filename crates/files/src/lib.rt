@@ -4,6 +4,9 @@
 // libc assume.
 ghost use Rattle.files.specs.Files.{Opened, Read};
 
+// What a key file may have at most, 32 bytes, and a byte more, so that a longer one is told.
+pub const KEY_ROOM: usize = 33;
+
 // How many bytes were read; 0 where the file is at its end, and where it failed.
 pub struct Got {
     pub failed: bool,

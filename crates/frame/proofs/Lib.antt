@@ -1,10 +1,4 @@
--- Laws of the crate frame.
+-- What the proofs of the crate frame rest on, and the uniqueness of its answers.
 pub mod Signs
-pub mod RoundTrip
-pub mod Fronts
-pub mod Whole
-pub mod Scans
-pub mod Longest
-pub mod NoCutFrame
-pub mod Cases
+pub mod Turns
 pub mod Unique

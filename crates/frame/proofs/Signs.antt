@@ -1,19 +1,19 @@
 -- The two's complement of 32 bits, as the code computes it. Assumes nothing.
 use Prim.Native.Nat.{ℕ, zero, suc, _+_, _-_, _≤_, _<_, _^_}
 use mathlib.Core.Path.{_≡_, refl, sym, ap, _∙_, subst}
-use mathlib.Core.Bool.{Bool, true, false, cond}
+use mathlib.Core.Bool.{Bool, true, false}
 use native.Mathlib.Nat.{zero-add}
 use native.Mathlib.Numerals.{add-one}
 use native.Mathlib.Omega.{arith}
 use borrow.Author.Tests.{lt-ltb, le-ltb}
 use lib.IntN.{ℤ, pos, negsuc, _-ℤ_, natAbs}
 use lib.Signed.{ltZ, nonNeg}
-use lib.Dec.{T, ltb}
+use lib.Dec.{T}
 use mir.Syntax.{w32}
 use mir.Val.{toZ, ofZ, SFits, Fits}
 use mir.Facts.{toZ-pos, toZ-ofZ}
-use Rattle.frame.specs.Signed.{signed, bitsOf}
-use Rattle.frame.specs.Position.{within}
+use Rattle.framing.specs.Signed.{signed, bitsOf}
+use Rattle.framing.specs.Position.{within}
 
 minus-one : (y : ℕ) → negsuc 0 -ℤ pos y ≡ negsuc y
 minus-one zero = refl
@@ -88,22 +88,3 @@ module _ (z : ℤ) (f : SFits w32 z) (e : ltZ (toZ w32 (ofZ w32 z)) (pos 0) ≡ 
 
   pub pos-bits : natAbs (toZ w32 (ofZ w32 z)) ≡ bitsOf z
   pos-bits = let n = nonneg z f e in ap natAbs (toZ-ofZ f ∙ n .1 .0) ∙ sym (ap bitsOf (n .1 .0))
-
--- there and back
-pub signed-bits : (z : ℤ) → SFits w32 z → signed (bitsOf z) ≡ z
-signed-bits (pos n) f = let h = f .sfits in simp (lt-ltb n (2 ^ 31) (omega arith))
-signed-bits (negsuc k) f =
-    let h = f .sfits in
-    let e : 2 ^ 32 - 1 - (2 ^ 32 - 1 - k) ≡ k = omega arith in
-    simp (le-ltb (2 ^ 32 - 1 - k) (2 ^ 31) (omega arith)) (ap negsuc e)
-
-pub bits-signed : (n : ℕ) → n < 2 ^ 32 → bitsOf (signed n) ≡ n
-bits-signed n h = by-half (ltb n (2 ^ 31)) refl
-  where
-    by-half : (b : Bool) → ltb n (2 ^ 31) ≡ b → bitsOf (cond b (pos n) (negsuc (2 ^ 32 - 1 - n))) ≡ n
-    by-half true e = refl
-    by-half false e = omega arith
-
-pub bits-lt : (z : ℤ) → SFits w32 z → bitsOf z < 2 ^ 32
-bits-lt (pos n) f = let h = f .sfits in omega arith
-bits-lt (negsuc k) f = omega arith

@@ -1,24 +1,17 @@
-// Frames: their kinds, their positions, what stands at the front of a byte string, and the scan of a
-// log (document 01, "Frame"). Nothing here needs a key: writing and reading are in the crate message.
+// Frames: what stands at the front of a byte string, and the scan of a log, as framing defines them; kinds and
+// positions in modules of their own. Nothing here needs a key: writing and reading are in the crate message.
 // Assumes nothing.
+use framing::Front;
+use framing::MARK;
+
 pub mod kind;
 pub mod position;
 
 ghost use mathlib.Core.Path.{_≡_};
 ghost use Prim.Native.Nat.{_+_, _*_, _<_};
 ghost use denote.Ref.{ptr};
-ghost use Rattle.frame.specs.Front.{frontOf};
-ghost use Rattle.frame.specs.Scan.{Scanned};
-
-// Byte 0 of a frame.
-pub const MARK: u8 = 0x4B;
-
-// What stands at the front of a byte string: a whole frame of this kind that takes so many bytes, or
-// the answer that says why there is none (9 to 12).
-pub enum Front {
-    Whole { kind: u8, taken: usize },
-    Stop(u8),
-}
+ghost use Rattle.framing.specs.Front.{frontOf};
+ghost use Rattle.framing.specs.Scan.{Scanned};
 
 // A little-endian number of two bytes.
 fn le16(lo: u8, hi: u8) -> usize

@@ -5,13 +5,15 @@ use mathlib.Core.Bool.{Bool, true, false, cond}
 use mathlib.Core.List.{List}
 use native.Mathlib.Omega.{arith}
 use borrow.Author.Tests.{le-leb, eqb-false}
-use lib.Dec.{eqb}
-use lib.ListN.{length}
+use lib.Dec.{eqb, leb→le}
+use lib.ListN.{length, take, drop, length-drop}
+use lib.Seq.{length-take-le}
+use Rattle.framing.specs.Kinds.{table, maxFramePlaintext, longestFrame}
 use Rattle.window.specs.declared.Step.the-variants.{More}
 use Rattle.window.specs.Step.{stepOf}
-use Rattle.window.proofs.InPieces.{last-decides}
+use Rattle.window.proofs.InPieces.{more-has-room, last-decides}
 use Rattle.window.specs.Slide.{Slid}
-use Rattle.framelog.specs.declared.Place.{Place}
+use Rattle.framelog.specs.declared.walk.Place.{Place}
 use Rattle.framelog.specs.Place.{Sound, budget}
 
 -- a part that lies in the window is slid whole
@@ -36,7 +38,7 @@ module _ (p : Place) (window : ℕ) (sound : Sound p window) (going : p .going �
       let f = sound .forwards in
       let g = sound .log in
       let c = sound .counted in (
-        record { forwards = omega arith; within = omega arith; log = omega arith; counted = omega arith },
+        record { forwards = omega arith; within = omega arith; longest = sound .longest; log = omega arith; counted = omega arith },
         subst (λ (n : ℕ). budget (refilled held more left on) < n) (going-budget p going) (at-most on (2 * left + (held + more - 0)) (suc (2 * p .left + (p .to - p .from))) (omega arith)),
       )
 
@@ -50,7 +52,7 @@ module _ (p : Place) (window : ℕ) (sound : Sound p window) (going : p .going �
       let w = sound .within in
       let g = sound .log in
       let c = sound .counted in (
-        record { forwards = omega arith; within = omega arith; log = omega arith; counted = omega arith },
+        record { forwards = omega arith; within = omega arith; longest = sound .longest; log = omega arith; counted = omega arith },
         subst (λ (n : ℕ). budget (reported taken) < n) (going-budget p going) (omega arith),
       )
 
@@ -60,7 +62,7 @@ module _ (p : Place) (window : ℕ) (sound : Sound p window) (going : p .going �
 
   pub after-end : Sound stopped window × (budget stopped < budget p)
   after-end = (
-    record { forwards = sound .forwards; within = sound .within; log = sound .log; counted = sound .counted },
+    record { forwards = sound .forwards; within = sound .within; longest = sound .longest; log = sound .log; counted = sound .counted },
     subst (λ (n : ℕ). 0 < n) (going-budget p going) (omega arith),
   )
 
@@ -75,3 +77,22 @@ some-left left held e = by-test (eqb left 0) refl
     by-test : (b : Bool) → eqb left 0 ≡ b → 0 < left
     by-test true z = absurd (last-decides held (ap (λ (b : Bool). stepOf b held) (sym z) ∙ sym e))
     by-test false z = pos-of left (eqb-false left 0 z)
+
+-- the window holds the longest frame
+pub window-holds : longestFrame ≤ 4096
+unfolding maxFramePlaintext table
+window-holds = leb→le longestFrame 4096 tt
+
+-- what is held where more is asked for is less than the longest frame, and so than the window
+pub has-room : (p : Place) (window : List ℕ) (last : Bool) → Sound p (length window)
+    → More ≡ stepOf last (take (p .to - p .from) (drop (p .from) window)) → p .to - p .from < length window
+has-room p window last sound e =
+    let short = more-has-room last (take (p .to - p .from) (drop (p .from) window)) (sym e) in
+    let l : length (take (p .to - p .from) (drop (p .from) window)) ≡ p .to - p .from = length-take-le _ _ (rw length-drop (omega (arith, sound .within))) in
+    omega (arith, sound .longest)
+
+-- a part of some bytes behind what is held
+pub some-bytes : (held more : ℕ) (window : List ℕ) → 0 < more → held + more ≤ length window → 0 < length (take (held + more - held) (drop held window))
+some-bytes held more window h l =
+    let e : length (take (held + more - held) (drop held window)) ≡ held + more - held = length-take-le _ _ (rw length-drop (omega arith)) in
+    omega arith

@@ -1,2 +1,3 @@
 -- What the contracts of the program framelog cite.
+pub mod Length
 pub mod Place

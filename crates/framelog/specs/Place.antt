@@ -2,13 +2,15 @@
 use Prim.Native.Nat.{ℕ, suc, _+_, _-_, _*_, _≤_}
 use mathlib.Core.Bool.{cond}
 use Rattle.sealing.specs.Limits.{maxLog}
-use Rattle.framelog.specs.declared.Place.{Place}
+use Rattle.framing.specs.Kinds.{longestFrame}
+use Rattle.framelog.specs.declared.walk.Place.{Place}
 
--- the part held lies in the window; what was reported, what is held and what is left make up a log that is not too long; and
--- each frame that was counted has a byte at least
+-- the part held lies in the window, which has room for the longest frame; what was reported, what is held and what is left make up a
+-- log that is not too long; and each frame that was counted has a byte at least
 pub record Sound (p : Place) (window : ℕ) : Type 0 where
   pub forwards : p .from ≤ p .to
   pub within : p .to ≤ window
+  pub longest : longestFrame ≤ window
   pub log : p .offset + (p .to - p .from) + p .left ≤ maxLog
   pub counted : p .frames ≤ p .offset
 

@@ -16,9 +16,9 @@ use Rattle.feeding.specs.declared.Hash.{Hash}
 use Rattle.feeding.specs.declared.Fed.{Fed}
 use Rattle.feeding.specs.Calls.{recordAnswer, resetOf}
 use Rattle.feeding.specs.declared.Joined.{Joined}
-use Rattle.frame.specs.declared.position.Position.{Position}
+use Rattle.framing.specs.declared.position.Position.{Position}
 use Rattle.ghash.specs.declared.parts.Started.{Started}
-use Rattle.message.specs.Message.{Values}
+use Rattle.messaging.specs.Message.{Values}
 use Rattle.octets.specs.Places.{Puts}
 use Rattle.octets.proofs.Places.{then, put-wrote}
 use Rattle.record.specs.Bytes.{recordBytes}

@@ -1,9 +1,9 @@
 -- What frames leave in a C caller's cells. Assumes nothing.
 use Rattle.answer.specs.Answers.{done}
-use Rattle.frame.specs.declared.Front.{Front}
-use Rattle.frame.specs.declared.Front.the-variants.{Whole, Stop}
-use Rattle.message.specs.declared.Message.{Message}
-use Rattle.message.specs.Message.{valuesOf}
+use Rattle.framing.specs.declared.Front.{Front}
+use Rattle.framing.specs.declared.Front.the-variants.{Whole, Stop}
+use Rattle.messaging.specs.declared.Message.{Message}
+use Rattle.messaging.specs.Message.{valuesOf}
 use Rattle.khumbuseal.specs.declared.frames.FrontCells.{FrontCells}
 use Rattle.khumbuseal.specs.declared.frames.MessageCells.{MessageCells}
 

@@ -1,17 +1,17 @@
 // Frames, positions and the scan for C. Assumes nothing.
-use frame::Front;
-use frame::kind;
-use frame::position::Position;
-use message::Message;
+use framing::Front;
+use framing::kind;
+use framing::position::Position;
+use messaging::Message;
 ghost use mathlib.Core.Path.{_≡_};
 ghost use lib.IntN.{pos};
 ghost use lib.ListN.{length};
-ghost use Rattle.frame.specs.Front.{frontOf};
-ghost use Rattle.frame.specs.Position.{positionOf, positionBytes, inRange};
-ghost use Rattle.frame.specs.Scan.{scanOf};
-ghost use Rattle.message.specs.Message.{valuesOf};
-ghost use Rattle.message.specs.Write.{Writes};
-ghost use Rattle.message.specs.Read.{readOf, readOut};
+ghost use Rattle.framing.specs.Front.{frontOf};
+ghost use Rattle.framing.specs.Position.{positionOf, positionBytes, inRange};
+ghost use Rattle.framing.specs.Scan.{scanOf};
+ghost use Rattle.messaging.specs.Message.{valuesOf};
+ghost use Rattle.messaging.specs.Write.{Writes};
+ghost use Rattle.messaging.specs.Read.{readOf, readOut};
 ghost use Rattle.khumbuseal.specs.Cells.{yesOrNo};
 ghost use Rattle.khumbuseal.specs.Frames.{frontCells, messageCells};
 
@@ -101,19 +101,13 @@ fn cells_of(m: Message) -> MessageCells
     ensures { λ r. ⌜ r ≡ messageCells m ⌝ }
 {
     match m {
-        Message::Position {
-            lat,
-            lon,
-            alt,
-            time,
-            taken,
-        } => MessageCells {
+        Message::Position { position, taken } => MessageCells {
             answer: answer::DONE,
             kind: kind::POSITION,
-            lat,
-            lon,
-            alt,
-            time,
+            lat: position.lat,
+            lon: position.lon,
+            alt: position.alt,
+            time: position.time,
             len: 0,
             taken,
         },
@@ -186,7 +180,7 @@ pub extern "C" fn khumbuseal_position_to_bytes(
 )
     ensures { λ _. ⌜ now (bytes .exit) ≡ positionBytes (record { lat = lat; lon = lon; alt = alt; time = time }) ⌝ }
 {
-    let spelled = position_at(lat, lon, alt, time).to_bytes();
+    let spelled = frame::position::to_bytes(position_at(lat, lon, alt, time));
     *bytes = spelled;
 }
 
@@ -201,7 +195,7 @@ pub extern "C" fn khumbuseal_position_from_bytes(
 )
     ensures { λ _. ⌜ positionOf (now (bytes .entry)) ≡ record { lat = now (lat .exit); lon = now (lon .exit); alt = now (alt .exit); time = now (time .exit) } ⌝ }
 {
-    let p = Position::from_bytes(*bytes);
+    let p = frame::position::from_bytes(*bytes);
     let a = p.lat;
     let o = p.lon;
     let h = p.alt;
@@ -216,7 +210,7 @@ pub extern "C" fn khumbuseal_position_from_bytes(
 pub extern "C" fn khumbuseal_position_is_in_range(lat: i32, lon: i32, alt: i32) -> u8
     ensures { λ r. ⌜ r ≡ yesOrNo (inRange (record { lat = lat; lon = lon; alt = alt; time = 0 })) ⌝ }
 {
-    if position_at(lat, lon, alt, 0).is_in_range() {
+    if frame::position::is_in_range(position_at(lat, lon, alt, 0)) {
         1
     } else {
         0

@@ -1,13 +1,5 @@
--- Laws of the crate message.
-pub mod Sealing
-pub mod Writing
-pub mod Content
-pub mod Reading
+-- What the proofs of the crate message rest on, and the uniqueness of its answers.
+pub mod Told
 pub mod Placing
-pub mod Trips
-pub mod ByKind
-pub mod Accepted
+pub mod Delivery
 pub mod Unique
-pub mod NoCutMessage
-pub mod Logs
-pub mod Cases

@@ -17,10 +17,11 @@ use Rattle.sealing.proofs.Refusals.{seal-no-room}
 use Rattle.sealing.proofs.Done.{sealable}
 use Rattle.rfc8452.specs.Siv.{sealed}
 use Rattle.sealing.specs.Siv.{sealAnswer, Seals}
-use Rattle.message.specs.Parts.{adOf, frameOf}
-use Rattle.message.specs.Write.{plainAnswer, writeAnswer, writtenOf, writeOut, Frames, Writes}
+use Rattle.messaging.specs.Parts.{adOf, frameOf}
+use Rattle.messaging.specs.Write.{plainAnswer, writeAnswer, writtenOf, writeOut, Writes}
+use Rattle.message.specs.SealFrame.{SealsFrame}
 use Rattle.rfc8452.proofs.Sealing.{sealed-length}
-use Rattle.message.proofs.Writing.{ad-length, frame-length}
+use Rattle.messaging.proofs.Writing.{ad-length, frame-length}
 
 -- the head: the associated data, and then the nonce behind it
 pub head-put : (ad nonce out one two : List ℕ) → length ad ≡ 4 → length nonce ≡ 12 → 16 ≤ length out → one ≡ copied ad out → two ≡ copied nonce (take (length one - 4) (drop 4 one))
@@ -56,7 +57,7 @@ module _ (kind : ℕ) (key nonce text out ad : List ℕ) (r : ℕ) (part : List 
     rw length-append (omega (arith, length-take-le 16 out long)),
   )
 
-  pub frame-refused : (r ≡ 0 → ⊥) → Frames kind key nonce text out r (take 16 out ++ (part ++ drop (length out - 16) (drop 16 out)))
+  pub frame-refused : (r ≡ 0 → ⊥) → SealsFrame kind key nonce text out r (take 16 out ++ (part ++ drop (length out - 16) (drop 16 out)))
   frame-refused h =
       let no : sealing ≡ 0 → ⊥ = λ z. h (sealed-answer ∙ z) in
       let same : part ≡ take (length out - 16) (drop 16 out) = part-is ∙ rw (ne-eqb sealing 0 no) in
@@ -67,7 +68,7 @@ module _ (kind : ℕ) (key nonce text out ad : List ℕ) (r : ℕ) (part : List 
             ∙ put-same 16 (length out - 16) out ∙ sym (rw (ne-eqb sealing 0 no));
       }
 
-  pub frame-done : (after : List ℕ) → r ≡ 0 → length nonce ≡ 12 → after ≡ ad ++ (nonce ++ drop 16 (take 16 out ++ (part ++ drop (length out - 16) (drop 16 out)))) → Frames kind key nonce text out r after
+  pub frame-done : (after : List ℕ) → r ≡ 0 → length nonce ≡ 12 → after ≡ ad ++ (nonce ++ drop 16 (take 16 out ++ (part ++ drop (length out - 16) (drop 16 out)))) → SealsFrame kind key nonce text out r after
   unfolding frameOf
   frame-done after z l12 e =
       let box = sealed key nonce (adOf kind text) text in
@@ -118,7 +119,7 @@ module _ (kind : ℕ) (key nonce text out : List ℕ) where
         write-refused a (after-plain ∙ sym same)
         (λ z. let s = sealable (length key) (length nonce) (length (adOf kind text)) (length text) (length out - 16) (sym same ∙ z) in omega (arith, s .room)) out refl
 
-    module _ (r : ℕ) (after : List ℕ) (f : Frames kind key nonce text out r after) where
+    module _ (r : ℕ) (after : List ℕ) (f : SealsFrame kind key nonce text out r after) where
       pub sealing-refused : (r ≡ 0 → ⊥) → Writes kind key nonce text out (record { answer = r; len = 0 }) after
       sealing-refused h =
           let no : sealAnswer key nonce (adOf kind text) text (length out - 16) ≡ 0 → ⊥ = λ z. h (f .answer ∙ z) in

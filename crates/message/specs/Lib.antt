@@ -1,5 +1,2 @@
--- What the contracts of the crate message cite, in the order to read it.
-pub mod Parts
-pub mod Message
-pub mod Write
-pub mod Read
+-- What serves the private functions of the crate message; what its public calls promise is in the crate messaging.
+pub mod SealFrame

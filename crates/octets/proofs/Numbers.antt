@@ -85,6 +85,13 @@ number-++ (b ∷ bs) cs =
     let e : b + (m + n * p) * 256 ≡ b + m * 256 + n * (p * 256) = omega arith in
     ap (λ x. b + x * 256) (number-++ bs cs) ∙ e ∙ ap (λ x. b + m * 256 + n * x) (sym (pow-suc 256 (length bs)))
 
+-- zeros behind a string do not change its number
+pub number-zeros : (s : List ℕ) (k : ℕ) → number (s ++ replicate k 0) ≡ number s
+unfolding number
+number-zeros [] zero = refl
+number-zeros [] (suc k) = ap (λ n. 0 + n * 256) (number-zeros [] k)
+number-zeros (b ∷ s) k = ap (λ n. b + n * 256) (number-zeros s k)
+
 pub bytesOf-++ : (j k m n : ℕ) → m < 256 ^ j → bytesOf (j + k) (n * 256 ^ j + m) ≡ bytesOf j m ++ bytesOf k n
 unfolding bytesOf
 bytesOf-++ zero k m n l = ap₂ bytesOf (zero-add k) (ap (λ x. n * 1 + x) (lt-one l) ∙ omega arith)

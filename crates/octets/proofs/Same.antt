@@ -10,6 +10,7 @@ use borrow.Author.Tests.{eq-eqb, ne-eqb, eqb-true, eqb-false}
 use lib.Dec.{eqb}
 use lib.Bits.{bitXor, bitOr, or-add-and, xor-add-and, and-le-l, and-le-r, xor-self, or-zero-l}
 use lib.ListN.{length, getD, take}
+use Rattle.logic.proofs.Tests.{no}
 use Rattle.octets.specs.Strings.{sameBytes}
 
 xor-none : (x y : ℕ) → bitXor x y ≡ 0 → x ≡ y
@@ -52,13 +53,13 @@ turn a b i d h k e = gather d (getD a i 0) (getD b i 0) _ _ e refl ∙ sym (ap (
 pub same-is : (a b : List ℕ) → sameBytes a b ≡ true → a ≡ b
 unfolding sameBytes
 same-is [] [] e = refl
-same-is [] (y ∷ b) e = absurd (let z : _≡_ {A = ℕ} 0 1 = cc in omega arith)
-same-is (x ∷ a) [] e = absurd (let z : _≡_ {A = ℕ} 0 1 = cc in omega arith)
+same-is [] (y ∷ b) e = no (cc)
+same-is (x ∷ a) [] e = no (cc)
 same-is (x ∷ a) (y ∷ b) e = both (eqb x y) refl e (same-is a b)
   where
     both : (c : Bool) → eqb x y ≡ c → cond c (sameBytes a b) false ≡ true → (sameBytes a b ≡ true → a ≡ b) → x ∷ a ≡ y ∷ b
     both true p q r = λ i. eqb-true x y p i ∷ r q i
-    both false p q r = absurd (let z : _≡_ {A = ℕ} 0 1 = cc in omega arith)
+    both false p q r = no (cc)
 
 pub same-self : (a : List ℕ) → sameBytes a a ≡ true
 unfolding sameBytes

@@ -17,6 +17,22 @@ use Rattle.octets.proofs.words.le32.Kinds as le32-kinds
 use Rattle.octets.proofs.words.le32.Reads as le32-reads
 use Rattle.octets.proofs.words.le32_bytes.Kinds as le32-bytes-kinds
 use Rattle.octets.proofs.words.le32_bytes.Reads as le32-bytes-reads
+use Rattle.octets.proofs.words.le16.Kinds as le16-kinds
+use Rattle.octets.proofs.words.le16.Reads as le16-reads
+use Rattle.octets.proofs.words.le16_bytes.Kinds as le16-bytes-kinds
+use Rattle.octets.proofs.words.le16_bytes.Reads as le16-bytes-reads
+use Rattle.octets.proofs.words.le64.Kinds as le64-kinds
+use Rattle.octets.proofs.words.le64.Reads as le64-reads
+use Rattle.octets.proofs.words.le64_bytes.Kinds as le64-bytes-kinds
+use Rattle.octets.proofs.words.le64_bytes.Reads as le64-bytes-reads
+use Rattle.octets.proofs.words.be32.Kinds as be32-kinds
+use Rattle.octets.proofs.words.be32.Reads as be32-reads
+use Rattle.octets.proofs.words.be32_bytes.Kinds as be32-bytes-kinds
+use Rattle.octets.proofs.words.be32_bytes.Reads as be32-bytes-reads
+use Rattle.octets.proofs.words.be64.Kinds as be64-kinds
+use Rattle.octets.proofs.words.be64.Reads as be64-reads
+use Rattle.octets.proofs.words.be64_bytes.Kinds as be64-bytes-kinds
+use Rattle.octets.proofs.words.be64_bytes.Reads as be64-bytes-reads
 
 pub shorter-unique : Unique 0 shorter-kinds.ps shorter-kinds.r shorter-reads.Post
 shorter-unique κs a x y e f p q = p ∙ sym q
@@ -41,3 +57,27 @@ le32-unique κs a x y e f p q = p .value ∙ sym (q .value)
 
 pub le32-bytes-unique : Unique 0 le32-bytes-kinds.ps le32-bytes-kinds.r le32-bytes-reads.Post
 le32-bytes-unique κs a x y e f p q = p ∙ sym q
+
+pub le16-unique : Unique 0 le16-kinds.ps le16-kinds.r le16-reads.Post
+le16-unique κs a x y e f p q = p .value ∙ sym (q .value)
+
+pub le16-bytes-unique : Unique 0 le16-bytes-kinds.ps le16-bytes-kinds.r le16-bytes-reads.Post
+le16-bytes-unique κs a x y e f p q = p ∙ sym q
+
+pub le64-unique : Unique 0 le64-kinds.ps le64-kinds.r le64-reads.Post
+le64-unique κs a x y e f p q = p .value ∙ sym (q .value)
+
+pub le64-bytes-unique : Unique 0 le64-bytes-kinds.ps le64-bytes-kinds.r le64-bytes-reads.Post
+le64-bytes-unique κs a x y e f p q = p ∙ sym q
+
+pub be32-unique : Unique 0 be32-kinds.ps be32-kinds.r be32-reads.Post
+be32-unique κs a x y e f p q = p .value ∙ sym (q .value)
+
+pub be32-bytes-unique : Unique 0 be32-bytes-kinds.ps be32-bytes-kinds.r be32-bytes-reads.Post
+be32-bytes-unique κs a x y e f p q = p ∙ sym q
+
+pub be64-unique : Unique 0 be64-kinds.ps be64-kinds.r be64-reads.Post
+be64-unique κs a x y e f p q = p .value ∙ sym (q .value)
+
+pub be64-bytes-unique : Unique 0 be64-bytes-kinds.ps be64-bytes-kinds.r be64-bytes-reads.Post
+be64-bytes-unique κs a x y e f p q = p ∙ sym q

@@ -1,4 +1,4 @@
--- The laws of the sum of polynomials. Assumes nothing.
+-- The laws of the exclusive or, which is the sum of polynomials over GF(2). Assumes nothing.
 use mathlib.Core.Path.{_≡_, refl, sym, ap, ap₂, _∙_}
 use Prim.Native.Nat.{ℕ, zero, _+_, _*_, _/_, _%_, _^_, _<_}
 use native.Mathlib.Nat.{zero-mul, one-mul, mod-lt, add-zero}

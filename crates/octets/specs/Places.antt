@@ -1,4 +1,4 @@
--- A byte string at a place of a buffer. Assumes nothing.
+-- Bytes over a buffer, at a place and at the front: what a call leaves in a lent buffer is said by these. Assumes nothing.
 use Prim.Native.Nat.{ℕ, _+_}
 use mathlib.Core.Path.{_≡_}
 use mathlib.Core.Bool.{Bool, cond}
@@ -9,6 +9,10 @@ use lib.ListN.{length, take, drop}
 -- s in place of as many bytes of out, from the place at on
 abbrev pub placed : (out : List ℕ) (at : ℕ) (s : List ℕ) → List ℕ
 placed out at s = take at out ++ (s ++ drop (at + length s) out)
+
+-- s over the front of out: `placed` at 0
+abbrev pub over : (s out : List ℕ) → List ℕ
+over s out = s ++ drop (length s) out
 
 -- s stands at the place at of out, which is else as it was, and the next place is behind it
 pub record Wrote (out : List ℕ) (at : ℕ) (s out′ : List ℕ) (next : ℕ) : Type 0 where

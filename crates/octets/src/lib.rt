@@ -58,12 +58,8 @@ pub fn put(out: &mut [u8], at: usize, s: &[u8]) -> usize
 {
     if at <= out.len() {
         if s.len() <= out.len() - at {
-            let mut i = 0;
-            while i < s.len() {
-                out[at + i] = s[i];
-                i += 1;
-            }
-            return at + i;
+            copy(s, &mut out[at..]);
+            return at + s.len();
         }
     }
     at

@@ -7,9 +7,6 @@ use feeding::Route;
 use libc::STDERR_FILENO;
 use libc::STDOUT_FILENO;
 
-// What a key file may have at most, and a byte more, so that a longer one is told.
-const KEY_ROOM: usize = 33;
-
 // A hash on its way through a file: whether there may be more, and the answer of the last feed.
 struct Fold {
     more: bool,
@@ -120,7 +117,7 @@ fn hash_file(path: &[u8], start: Hash) {
 
 // Hashes the file at path under the key at key_path.
 fn run(key_path: &[u8], path: &[u8]) {
-    let mut key = [0u8; KEY_ROOM];
+    let mut key = [0u8; files::KEY_ROOM];
     let got = files::fetch(key_path, &mut key);
     if got.failed {
         return;

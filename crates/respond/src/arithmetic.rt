@@ -1,10 +1,9 @@
 // Requests on words and on field elements.
-use crate::print::Said;
-use crate::requests;
-use crate::words;
 use field::FieldElement;
+use protocol::said::Said;
+use protocol::words::Words;
 
-// The word of 32 bits that a slot holds.
+// The word of 32 bits that a number of 64 ends with.
 fn low_half(x: u64) -> u32 {
     (x % 0x1_0000_0000) as u32
 }
@@ -25,12 +24,14 @@ fn product64(x: u64, y: u64) -> Said {
     Said::numbers(p.lo, p.hi, 0)
 }
 
-// What a request on words says.
-fn on_words(code: usize, x: u64, y: u64) -> Said {
-    match code {
-        requests::PRODUCT64 => product64(x, y),
-        requests::BMUL32 => Said::numbers(bmul32(x, y), 0, 0),
-        requests::REVERSE64 => Said::numbers(word::reverse64(x), 0, 0),
+// Requests on words.
+pub(crate) fn on_words(call: u8, w: Words, arena: &[u8]) -> Said {
+    let x = w.spelled(arena, 0);
+    let y = w.spelled(arena, 1);
+    match call {
+        b'p' => product64(x, y),
+        b'b' => Said::numbers(bmul32(x, y), 0, 0),
+        b'r' => Said::numbers(word::reverse64(x), 0, 0),
         _ => Said::numbers(reverse32(x), 0, 0),
     }
 }
@@ -43,27 +44,22 @@ fn rf(a: FieldElement, b: FieldElement) -> FieldElement {
 }
 
 // The element that a request on elements says.
-fn on_elements(code: usize, a: FieldElement, b: FieldElement) -> FieldElement {
-    match code {
-        requests::ADD => a.add(b),
-        requests::DOT => a.dot(b),
-        requests::DOT32 => a.dot32(b),
-        requests::RF => rf(a, b),
-        requests::MULX => a.mulx(),
+fn element(call: u8, a: FieldElement, b: FieldElement) -> FieldElement {
+    match call {
+        b'a' => a.add(b),
+        b'd' => a.dot(b),
+        b'n' => a.dot32(b),
+        b'f' => rf(a, b),
+        b'm' => a.mulx(),
         _ => a.reverse(),
     }
 }
 
-// Any of these requests. An element that it says lies in the space.
-pub(crate) fn answer(code: usize, arena: &[u8], slots: &[u64], space: &mut [u8]) -> Said {
-    if code <= requests::REVERSE32 {
-        let x = words::spelled(arena, slots, 0);
-        let y = words::spelled(arena, slots, 1);
-        return on_words(code, x, y);
-    }
-    let a = words::element(arena, slots, 0);
-    let b = words::element(arena, slots, 1);
-    let said = on_elements(code, a, b).to_bytes();
+// Requests on elements. What is said lies in the space.
+pub(crate) fn on_elements(call: u8, w: Words, arena: &[u8], space: &mut [u8]) -> Said {
+    let a = FieldElement::from_bytes(w.block(arena, 0));
+    let b = FieldElement::from_bytes(w.block(arena, 1));
+    let said = element(call, a, b).to_bytes();
     octets::copy(&said, space);
     Said::numbers(0, 0, 0)
 }

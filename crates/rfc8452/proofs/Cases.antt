@@ -1,28 +1,59 @@
--- Cases of POLYVAL: the RFC's example, and two keys that document 01 names. Assumes nothing.
-use mathlib.Core.Path.{_≡_, refl, ap, _∙_}
-use mathlib.Core.List.{List, [], _∷_}
-use Prim.Native.Nat.{ℕ, _^_, _<_}
+-- The definitions of RFC 8452 computed on small cases, so that each of their numbers is held to something outside them: the counter, the bits
+-- that are set and cleared, the paddings, the length block, the key of appendix A. The worked example, which takes AES, is in rfc8452_examples.
+-- Assumes nothing.
+use Prim.Native.Nat.{ℕ, _+_, _-_, _*_, _%_, _^_}
+use mathlib.Core.Path.{_≡_, refl}
+use mathlib.Core.List.{List, [], _∷_, reverse}
+use lib.Dec.{eqb→eq}
+use lib.ListN.{take, drop, replicate}
+use lib.Seq.{drop-at}
 use Rattle.octets.specs.Xor.{_⊕_}
-use Rattle.octets.proofs.Xor.{zero-⊕}
-use Rattle.gf2.specs.Polyval.{dot, unit}
-use Rattle.gf2.proofs.Dot.{dot-comm, dot-zero, unit-dot}
-use Rattle.gf2.proofs.Cases.{printed, rfc-step-1, rfc-step-2}
-use Rattle.rfc8452.specs.Machine.{step, run, polyval}
+use Rattle.octets.specs.Numbers.{number, bytesOf}
+use Rattle.octets.specs.Strings.{xorBytes}
+use Rattle.gf2.specs.Remainder.{timesX}
+use Rattle.gf2.specs.Polyval.{modulus}
+use Rattle.rfc8452.specs.Blocks.{blocksN, blocks}
+use Rattle.rfc8452.specs.Machine.{polyval}
+use Rattle.rfc8452.specs.Counter.{counterBlock, nextCounter}
+use Rattle.rfc8452.specs.Tag.{lengthBlock, hashed, tagBlock}
+use Rattle.rfc8452.specs.AppendixA.{keyFor}
 
--- RFC 8452, appendix A: POLYVAL(H, X_1, X_2)
-pub rfc-polyval : polyval (printed 0x25629347589242761d31f826ba4b757b) (printed 0x4f4f95668c83dfb6401762bb2d01a262 ∷ printed 0xd1a24ddd2721d006bbe45f20d3c9f362 ∷ [])
-    ≡ printed 0xf7a3b47b846119fae5b7866cf5e5b77e
-unfolding run step
-rfc-polyval =
-    ap (λ s. dot (s ⊕ printed 0xd1a24ddd2721d006bbe45f20d3c9f362) (printed 0x25629347589242761d31f826ba4b757b)) rfc-step-1 ∙ rfc-step-2
+-- the counter carries from the first byte into the second, and from the fourth into none
+pub carries : (rest : List ℕ) → nextCounter (255 ∷ 0 ∷ 0 ∷ 0 ∷ rest) ≡ 0 ∷ 1 ∷ 0 ∷ 0 ∷ rest
+unfolding nextCounter number bytesOf
+carries rest = refl
 
--- "the zero key's zero hash": any message
-pub zero-key : (xs : List ℕ) → polyval 0 xs ≡ 0
-unfolding run step
-zero-key [] = refl
-zero-key (x ∷ xs) = ap (λ s. run 0 s xs) (dot-zero (0 ⊕ x)) ∙ zero-key xs
+pub wraps : (rest : List ℕ) → nextCounter (255 ∷ 255 ∷ 255 ∷ 255 ∷ rest) ≡ 0 ∷ 0 ∷ 0 ∷ 0 ∷ rest
+unfolding nextCounter number bytesOf
+wraps rest = refl
 
--- "under the unit key a single block hashes to itself"
-pub unit-key : (x : ℕ) → x < 2 ^ 128 → polyval unit (x ∷ []) ≡ x
-unfolding run step
-unit-key x l = dot-comm (0 ⊕ x) unit ∙ ap (dot unit) (zero-⊕ x) ∙ unit-dot x l
+-- the other twelve bytes of its block never change
+pub others-stay : (block : List ℕ) → drop 4 (nextCounter block) ≡ drop 4 block
+unfolding nextCounter bytesOf
+others-stay block = drop-at (bytesOf 4 ((number (take 4 block) + 1) % 2 ^ 32)) (drop 4 block) 4 refl
+
+-- the first counter block of a tag whose top bit is clear has it set
+pub top-bit-set : counterBlock (replicate 16 0x0f) ≡ 0x0f ∷ 0x0f ∷ 0x0f ∷ 0x0f ∷ 0x0f ∷ 0x0f ∷ 0x0f ∷ 0x0f ∷ 0x0f ∷ 0x0f ∷ 0x0f ∷ 0x0f ∷ 0x0f ∷ 0x0f ∷ 0x0f ∷ 0x8f ∷ []
+unfolding counterBlock
+top-bit-set = refl
+
+-- the nonce goes to the first twelve bytes of the hash, and the top bit of its last byte is cleared
+pub top-bit-cleared : tagBlock (replicate 12 0x01) (2 ^ 128 - 1)
+    ≡ 0xfe ∷ 0xfe ∷ 0xfe ∷ 0xfe ∷ 0xfe ∷ 0xfe ∷ 0xfe ∷ 0xfe ∷ 0xfe ∷ 0xfe ∷ 0xfe ∷ 0xfe ∷ 0xff ∷ 0xff ∷ 0xff ∷ 0x7f ∷ []
+unfolding tagBlock xorBytes bytesOf _⊕_
+top-bit-cleared = refl
+
+-- the lengths count bits, that of the associated data first, each in eight bytes
+pub lengths : lengthBlock 32 5 ≡ 0 ∷ 1 ∷ 0 ∷ 0 ∷ 0 ∷ 0 ∷ 0 ∷ 0 ∷ 40 ∷ 0 ∷ 0 ∷ 0 ∷ 0 ∷ 0 ∷ 0 ∷ 0 ∷ []
+unfolding bytesOf
+lengths = refl
+
+-- associated data and text are padded each by itself: a byte of each is two blocks, and the third is the lengths
+pub padded-apart : (h : ℕ) → hashed h (7 ∷ []) (9 ∷ []) ≡ polyval h (7 ∷ 9 ∷ (8 + 8 * 2 ^ 64) ∷ [])
+unfolding hashed blocks blocksN number bytesOf
+padded-apart h = refl
+
+-- "mulX_POLYVAL(ByteReverse(H)) = f6ea96744df0633aec8424b18e26c54a", for H = 25629347589242761d31f826ba4b757b
+pub key-for : keyFor (reverse (bytesOf 16 0x25629347589242761d31f826ba4b757b)) ≡ number (reverse (bytesOf 16 0xf6ea96744df0633aec8424b18e26c54a))
+unfolding timesX modulus number bytesOf _⊕_
+key-for = eqb→eq (keyFor (reverse (bytesOf 16 0x25629347589242761d31f826ba4b757b))) (number (reverse (bytesOf 16 0xf6ea96744df0633aec8424b18e26c54a))) tt

@@ -9,6 +9,9 @@ use lib.Dec.{lit≤}
 use lib.Seq.{paste, take-append-le, drop-append-le, take-add, take-all, length-take-le}
 use Rattle.octets.specs.Numbers.{number}
 use Rattle.octets.proofs.Numbers.{Bytes, bytes-take, number-lt}
+pub use Rattle.octets.proofs.Numbers.{number-zeros}
+use Rattle.octets.proofs.Parts.{take-front}
+pub use Rattle.octets.proofs.Parts.{part-rest, drop-zeros}
 use Rattle.rfc8452.specs.Blocks.{blocksN, blocks}
 
 blocksN-++ : (m n : ℕ) (s t : List ℕ) → length s ≡ m * 16 → blocksN (m + n) (s ++ t) ≡ blocksN m s ++ blocksN n t
@@ -40,10 +43,6 @@ blocks-one s some few =
     let one : (length s + 15) / 16 ≡ 1 = omega arith in
     ap (λ k. blocksN k s) one ∙ ap (λ b. number b ∷ []) (take-all 16 s few)
 
--- and all that is left from place i on
-pub part-rest : (i : ℕ) (s : List ℕ) → take (length s - i) (drop i s) ≡ drop i s
-part-rest i s = take-all (length s - i) (drop i s) (rw length-drop (omega arith))
-
 -- a turn of a loop over whole blocks
 pub blocks-turn : (s : List ℕ) (i : ℕ) → i % 16 ≡ 0 → i + 16 ≤ length s → blocks (take (i + 16) s) ≡ blocks (take i s) ++ number (take 16 (drop i s)) ∷ []
 blocks-turn s i whole room =
@@ -63,29 +62,12 @@ block-lt s bytes =
     short : length (take 16 s) ≤ 16
     short = subst (λ n. n ≤ 16) (sym (length-take 16 s)) (min-le-left 16 (length s))
 
--- zeros behind a string do not change its number
-pub number-zeros : (s : List ℕ) (k : ℕ) → number (s ++ replicate k 0) ≡ number s
-unfolding number
-number-zeros [] zero = refl
-number-zeros [] (suc k) = ap (λ n. 0 + n * 256) (number-zeros [] k)
-number-zeros (b ∷ s) k = ap (λ n. b + n * 256) (number-zeros s k)
-
-pub drop-zeros : (n k : ℕ) → drop n (replicate {A = ℕ} k 0) ≡ replicate (k - n) 0
-drop-zeros zero k = let e : k - 0 ≡ k = omega arith in ap (λ m. replicate {A = ℕ} m 0) (sym e)
-drop-zeros (suc n) zero = let e : 0 - suc n ≡ 0 = omega arith in ap (λ m. replicate {A = ℕ} m 0) (sym e)
-drop-zeros (suc n) (suc k) = let e : suc k - suc n ≡ k - n = omega arith in drop-zeros n k ∙ ap (λ m. replicate {A = ℕ} m 0) (sym e)
-
 -- what has room of a string, stored at the front of zeros
 pub pasted-zeros : (s : List ℕ) → paste (replicate 16 0) 0 s (min (length s) (16 - 0)) ≡ take 16 s ++ replicate (16 - length (take 16 s)) 0
 pasted-zeros s =
     let short : length (take 16 s) ≡ min (length s) 16 = length-take 16 s ∙ min-comm 16 (length s) in
     ap₂ _++_ (ap (λ n. take n s) (sym short) ∙ take-front 16 s)
     (ap (λ n. drop n (replicate {A = ℕ} 16 0)) (zero-add (min (length s) 16) ∙ sym short) ∙ drop-zeros (length (take 16 s)) 16)
-  where
-    take-front : (n : ℕ) (s : List ℕ) → take (length (take n s)) s ≡ take n s
-    take-front zero s = refl
-    take-front (suc n) [] = refl
-    take-front (suc n) (x ∷ s) = ap (λ t. x ∷ t) (take-front n s)
 
 pub number-pasted : (s : List ℕ) → number (paste (replicate 16 0) 0 s (min (length s) (16 - 0))) ≡ number (take 16 s)
 number-pasted s = ap number (pasted-zeros s) ∙ number-zeros (take 16 s) (16 - length (take 16 s))

@@ -1,14 +1,14 @@
 -- Blocks one by one, and the blocks of a part of a string and of what stands behind it. Assumes nothing.
 use mathlib.Core.Path.{_≡_, refl, sym, ap, ap₂, _∙_, subst}
 use mathlib.Core.List.{List, [], _∷_}
-use Prim.Native.Nat.{ℕ, zero, suc, _+_, _-_, _*_, _/_, _≤_, _<_, min}
-use native.Mathlib.Nat.{zero-add, min-eq-left, min-eq-right, zero-lt-suc}
-use native.Mathlib.Decide.{decLe}
+use Prim.Native.Nat.{ℕ, zero, suc, _+_, _-_, _*_, _/_, _<_}
+use native.Mathlib.Nat.{zero-lt-suc}
 use native.Mathlib.Omega.{arith}
-use lib.ListN.{length, take, drop, length-drop, drop-of-length-le}
-use lib.Seq.{drop-length, take-all, take-take, take-nil, drop-nil, drop-drop}
+use lib.ListN.{length, take, drop, length-drop}
+use lib.Seq.{take-take, take-nil, drop-nil, drop-drop}
 use Rattle.octets.specs.Numbers.{number}
 use Rattle.octets.proofs.Numbers.{Bytes, bytes-drop}
+pub use Rattle.octets.proofs.Parts.{drop-take, part-taken, part-left}
 use Rattle.gf2.proofs.Roots.{Elements}
 use Rattle.rfc8452.specs.Blocks.{blocksN, blocks}
 use Rattle.rfc8452.proofs.Cut.{blocks-none, block-lt}
@@ -28,11 +28,6 @@ blocksN-length (suc n) s = ap suc (blocksN-length n (drop 16 s))
 pub blocks-length : (s : List ℕ) → length (blocks s) ≡ (length s + 15) / 16
 unfolding blocks
 blocks-length s = blocksN-length ((length s + 15) / 16) s
-
-pub drop-take : (m n : ℕ) (l : List ℕ) → drop m (take (m + n) l) ≡ take n (drop m l)
-drop-take zero n l = ap (λ k. take k l) (zero-add n)
-drop-take (suc m) n [] = ap (drop (suc m)) (take-nil (suc m + n)) ∙ sym (take-nil n)
-drop-take (suc m) n (x ∷ l) = let e : suc m + n ≡ suc (m + n) = omega arith in ap (λ k. drop (suc m) (take k (x ∷ l))) e ∙ drop-take m n l
 
 -- the first n blocks
 pub take-blocks : (n : ℕ) (s : List ℕ) → blocks (take (n * 16) s) ≡ take n (blocks s)
@@ -55,26 +50,6 @@ drop-blocks (suc n) (x ∷ s) =
     let e : suc n * 16 ≡ 16 + n * 16 = omega arith in
     ap blocks (ap (λ m. drop m (x ∷ s)) e ∙ sym (drop-drop (n * 16) 16 (x ∷ s))) ∙ drop-blocks n (drop 16 (x ∷ s))
     ∙ sym (ap (drop (suc n)) (blocks-cons (x ∷ s) (zero-lt-suc (length s))))
-
--- a part that ends after k bytes or with the string, as code lends it, and what is behind it
-pub part-taken : (i k : ℕ) (s : List ℕ) → i ≤ length s → take (min (i + k) (length s) - i) (drop i s) ≡ take k (drop i s)
-part-taken i k s l = by-end (decLe (i + k) (length s))
-  where
-    by-end : Dec (i + k ≤ length s) → take (min (i + k) (length s) - i) (drop i s) ≡ take k (drop i s)
-    by-end (yes h) = let e : i + k - i ≡ k = omega arith in ap (λ n. take (n - i) (drop i s)) (min-eq-left h) ∙ ap (λ n. take n (drop i s)) e
-    by-end (no h) =
-        let l : length s ≤ i + k = omega (arith, h) in
-        ap (λ n. take (n - i) (drop i s)) (min-eq-right l) ∙ take-all (length s - i) (drop i s) (rw length-drop (omega arith))
-        ∙ sym (take-all k (drop i s) (rw length-drop (omega arith)))
-
-pub part-left : (i k : ℕ) (s : List ℕ) → drop (min (i + k) (length s)) s ≡ drop k (drop i s)
-part-left i k s = by-end (decLe (i + k) (length s)) ∙ sym (drop-drop k i s)
-  where
-    by-end : Dec (i + k ≤ length s) → drop (min (i + k) (length s)) s ≡ drop (i + k) s
-    by-end (yes h) = ap (λ n. drop n s) (min-eq-left h)
-    by-end (no h) =
-        let l : length s ≤ i + k = omega (arith, h) in
-        ap (λ n. drop n s) (min-eq-right l) ∙ drop-length s ∙ sym (drop-of-length-le s {i = i + k} l)
 
 -- every block is an element
 elements : (n : ℕ) (s : List ℕ) → Bytes s → Elements (blocksN n s)

@@ -1,3 +1,2 @@
--- RFC 8452: section 8's example, and the counter of section 4, computed.
+-- RFC 8452 section 8's worked example, computed.
 mod Worked
-mod Counter

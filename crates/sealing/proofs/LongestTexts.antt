@@ -1,5 +1,5 @@
 -- Against programs that always refuse: a plaintext of 4,096 bytes seals, and what was sealed opens, with keys of both lengths. The cases
--- that lengths alone decide are aead/proofs/Cases. Assumes nothing.
+-- that lengths alone decide are proofs/Cases. Assumes nothing.
 use Prim.Native.Nat.{ℕ}
 use mathlib.Core.Path.{_≡_}
 use mathlib.Core.List.{List, []}

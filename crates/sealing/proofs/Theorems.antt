@@ -1,5 +1,5 @@
 -- Sealing and opening undo one another, by their definitions and by their calls; opening answers 0 exactly on what sealing makes.
--- Each is the law of any mode (aead/proofs/Modes, Trips, Done) at the mask and the tag of RFC 8452. Assumes nothing.
+-- Each is the law of any mode (modes/proofs/Modes; Trips and Done beside this file) at the mask and the tag of RFC 8452. Assumes nothing.
 use Prim.Native.Nat.{ℕ, _+_, _-_, _≤_}
 use mathlib.Core.Path.{_≡_, refl, sym, ap, _∙_}
 use mathlib.Core.List.{List, _++_}

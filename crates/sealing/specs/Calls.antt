@@ -2,9 +2,9 @@
 -- output's length. Assumes nothing.
 use Prim.Native.Nat.{ℕ, _+_, _-_}
 use mathlib.Core.Bool.{Bool, not, cond, _&&_}
-use mathlib.Core.List.{List, [], _∷_, _++_}
+use mathlib.Core.List.{List, [], _∷_}
 use lib.Dec.{eqb, ltb}
-use lib.ListN.{length, drop}
+use Rattle.octets.specs.Places.{over}
 use Rattle.answer.specs.Answers.{done, keyLength, nonceLength, adTooLong, textTooLong, sealedTooShort, noRoom, tagDiffers}
 use Rattle.sealing.specs.Limits.{maxAd, maxPlaintext, maxSealed}
 use Rattle.answer.specs.First.{Refusal, _⇒_, first}
@@ -32,4 +32,4 @@ openAnswer key nonce ad sealed room authentic =
 
 -- what a call leaves in out: where it answers 0 the new bytes and what stood behind them, else all as it was
 abbrev pub written : (answer : ℕ) (new out : List ℕ) → List ℕ
-written answer new out = cond (eqb answer done) (new ++ drop (length new) out) out
+written answer new out = cond (eqb answer done) (over new out) out

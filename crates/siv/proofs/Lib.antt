@@ -1,4 +1,4 @@
--- What the buffers hold, what each way out owes, and the theorems on sealing and opening.
+-- What the buffers hold, what each way out owes, and that no contract leaves a choice.
 pub mod Writing
 pub mod Returns
 pub mod Unique

@@ -61,7 +61,7 @@ pub front-masked : (text pad b c : List ℕ) (n : ℕ) → n ≡ min 16 (length 
 unfolding copied
 front-masked text pad b c n en eb ec =
     ap (take n) ec ∙ take-xor n b pad
-    ∙ ap (λ (x : List ℕ). xorBytes x pad) (ap (take n) eb ∙ take-at (take 16 text) (drop (length text) (replicate 16 0)) n (length-take 16 text ∙ sym en))
+    ∙ ap (λ (x : List ℕ). xorBytes x pad) (ap (take n) eb ∙ take-at (take 16 text) (drop (length (take 16 text)) (replicate 16 0)) n (length-take 16 text ∙ sym en))
 
 -- the same of a masked text, whose block is made from the body under it
 module _ (h s : ℕ) (s-lt : s < 2 ^ 128) (next cipher : List ℕ → List ℕ) (sixteen : (b : List ℕ) → length (cipher b) ≡ 16) (start body : List ℕ) where

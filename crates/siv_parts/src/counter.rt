@@ -1,6 +1,7 @@
 // The counter blocks and the key stream (RFC 8452 section 4, AES_CTR).
 use aead::cipher::Cipher;
 use octets::words::le32;
+use octets::words::le32_bytes;
 ghost use mathlib.Core.Path.{_≡_};
 ghost use Rattle.modes.specs.Stream.{masked};
 ghost use Rattle.aead.specs.Cipher.{encrypted};
@@ -19,15 +20,12 @@ pub fn counter_block(tag: [u8; 16]) -> [u8; 16]
 pub(crate) fn next_counter(b: [u8; 16]) -> [u8; 16]
     ensures { λ r. ⌜ r ≡ nextCounter b ⌝ }
 {
-    let n0 = std::num::wrapping_add_u32(le32(b[0], b[1], b[2], b[3]), 1);
-    let n1 = n0 / 0x100;
-    let n2 = n1 / 0x100;
-    let n3 = n2 / 0x100;
+    let count = le32_bytes(std::num::wrapping_add_u32(le32(b[0], b[1], b[2], b[3]), 1));
     let mut next = b;
-    next[0] = (n0 % 0x100) as u8;
-    next[1] = (n1 % 0x100) as u8;
-    next[2] = (n2 % 0x100) as u8;
-    next[3] = (n3 % 0x100) as u8;
+    next[0] = count[0];
+    next[1] = count[1];
+    next[2] = count[2];
+    next[3] = count[3];
     next
 }
 

@@ -1,6 +1,6 @@
 -- A reader that is given a log in pieces of any size reports exactly the frames of the scan of the whole log, and its stop
--- reason; and when it asks for more it holds less than the longest frame. Assumes nothing.
-use Prim.Native.Nat.{ℕ, zero, suc, _+_, _<_}
+-- reason; and when it asks for more it holds less than the longest frame, so that a window of that size is enough. Assumes nothing.
+use Prim.Native.Nat.{ℕ, zero, suc, _+_, _≤_, _<_}
 use mathlib.Core.Path.{_≡_, refl, sym, ap, _∙_, subst}
 use mathlib.Core.Bool.{Bool, true, false, cond}
 use mathlib.Core.List.{List, [], _∷_, _++_, append-assoc, append-nil}
@@ -10,14 +10,14 @@ use lib.Dec.{eqb}
 use lib.ListN.{length, take, drop, length-append, length-drop}
 use lib.Seq.{take-append-le, drop-append-le, length-take-le, take-add}
 use Rattle.answer.specs.Answers.{cutShort}
-use Rattle.frame.specs.declared.Front.the-variants.{Whole, Stop}
-use Rattle.frame.specs.Kinds.{maxFramePlaintext}
-use Rattle.frame.specs.Front.{frontOf}
-use Rattle.frame.specs.Scan.{Scan, none, ahead, scanOf}
-use Rattle.frame.proofs.Fronts.{no-mark}
-use Rattle.frame.proofs.Whole.{IsWhole, whole-is, whole-bounds, whole-before, whole-alone}
-use Rattle.frame.proofs.Scans.{scan-end, scan-stop, scan-whole}
-use Rattle.frame.proofs.Longest.{Frames, joined}
+use Rattle.framing.specs.declared.Front.the-variants.{Whole, Stop}
+use Rattle.framing.specs.Kinds.{longestFrame}
+use Rattle.framing.specs.Front.{frontOf}
+use Rattle.framing.specs.Scan.{Scan, none, ahead, scanOf}
+use Rattle.framing.proofs.Fronts.{no-mark}
+use Rattle.framing.proofs.Whole.{IsWhole, whole-is, whole-bounds, whole-before, whole-alone}
+use Rattle.framing.proofs.Scans.{scan-end, scan-stop, scan-whole}
+use Rattle.framing.proofs.Longest.{AllFrames, joined}
 use Rattle.window.specs.declared.Step.{Step}
 use Rattle.window.specs.declared.Step.the-variants.{Frame, More, End}
 use Rattle.window.specs.Step.{stepOf}
@@ -27,7 +27,7 @@ use Rattle.window.proofs.Views.{View, cut, wrong, frame, view}
 
 -- the report is the scan's: whole frames, one after the other the prefix that the scan hands back, as many as it counts, and its reason
 pub record Reports (log : List ℕ) (r : Report) : Type 0 where
-  pub whole : Frames (r .frames)
+  pub whole : AllFrames (r .frames)
   pub prefix : joined (r .frames) ≡ take (scanOf log .taken) log
   pub count : length (r .frames) ≡ scanOf log .frames
   pub reason : r .stop ≡ scanOf log .stop
@@ -152,15 +152,19 @@ pub in-pieces : (n : ℕ) (pieces : List (List ℕ)) → length (joined pieces) 
 in-pieces n pieces few = right-for n false [] pieces (λ z. absurd (let y : _≡_ {A = ℕ} 0 1 = cc in omega arith)) few
 
 -- more is asked for only where less than the longest frame is held
-pub more-has-room : (last : Bool) (held : List ℕ) → stepOf last held ≡ More → length held < 32 + maxFramePlaintext
+pub more-has-room : (last : Bool) (held : List ℕ) → stepOf last held ≡ More → length held < longestFrame
 more-has-room last held e = by (view held)
   where
-    by : View held → length held < 32 + maxFramePlaintext
+    by : View held → length held < longestFrame
     by (cut f short) = short
     by (wrong r h f) =
         let here : frontOf held ≡ Stop r = ap frontOf (sym (append-nil held)) ∙ f [] in
         absurd (let z : _≡_ {A = ℕ} 0 1 = cc (step-wrong last held r h here) in omega arith)
     by (frame kind taken w) = absurd (let z : _≡_ {A = ℕ} 0 1 = cc (step-frame last held kind taken w) in omega arith)
+
+-- so a window that can hold the longest frame of the table has room whenever more is asked for
+pub window-has-room : (window : ℕ) → longestFrame ≤ window → (last : Bool) (held : List ℕ) → stepOf last held ≡ More → length held < window
+window-has-room window fits last held e = let less = more-has-room last held e in omega arith
 
 -- the last bytes decide: where a frame is cut there, the reader stops
 step-last : (held : List ℕ) → frontOf held ≡ Stop cutShort → (r : ℕ) × (End r ≡ stepOf true held)

@@ -6,9 +6,9 @@ use mathlib.Core.List.{List}
 use borrow.Author.Tests.{eq-eqb, ne-eqb}
 use lib.ListN.{length}
 use Rattle.answer.specs.Answers.{cutShort}
-use Rattle.frame.specs.declared.Front.{Front}
-use Rattle.frame.specs.declared.Front.the-variants.{Stop}
-use Rattle.frame.specs.Front.{frontOf}
+use Rattle.framing.specs.declared.Front.{Front}
+use Rattle.framing.specs.declared.Front.the-variants.{Stop}
+use Rattle.framing.specs.Front.{frontOf}
 use Rattle.window.specs.declared.Step.the-variants.{More, End}
 use Rattle.window.specs.Step.{onFront, stepOf}
 

@@ -8,15 +8,16 @@ use borrow.Author.Tests.{ltb-true, ltb-false, eqb-true, eqb-false}
 use lib.Dec.{ltb, eqb}
 use lib.ListN.{length, getD, length-append, List·getD-append}
 use Rattle.answer.specs.Answers.{cutShort, notAFrame, unknownKind, lengthForKind}
-use Rattle.frame.specs.declared.Front.the-variants.{Stop}
-use Rattle.frame.specs.Kinds.{isKnown, isAllowed, maxFramePlaintext}
-use Rattle.frame.specs.Front.{mark, kindOf, sealedLen, takenOf, frontOf}
-use Rattle.frame.proofs.Fronts.{no-mark, wrong-mark, no-kind, wrong-kind, no-length, wrong-length, no-end, whole}
-use Rattle.frame.proofs.Whole.{IsWhole, is-whole, allowed-bounds}
+use Rattle.framing.specs.declared.Front.the-variants.{Stop}
+use Rattle.framing.specs.Kinds.{isKnown, isAllowed, longestFrame}
+use Rattle.framing.specs.Front.{mark, kindOf, sealedLen, takenOf, frontOf}
+use Rattle.framing.proofs.Fronts.{no-mark, wrong-mark, no-kind, wrong-kind, no-length, wrong-length, no-end, whole}
+use Rattle.framing.proofs.Rows.{allowed-bounds}
+use Rattle.framing.proofs.Whole.{IsWhole, is-whole}
 
 -- the bytes at hand are the front of a frame that goes on, or no frame can stand here whatever follows, or a frame stands here
 pub data View (s : List ℕ) : Type 0 where
-  cut : frontOf s ≡ Stop cutShort → length s < 32 + maxFramePlaintext → View s
+  cut : frontOf s ≡ Stop cutShort → length s < longestFrame → View s
   wrong : (r : ℕ) → (r ≡ cutShort → ⊥) → ((t : List ℕ) → frontOf (s ++ t) ≡ Stop r) → View s
   frame : (kind taken : ℕ) → IsWhole s kind taken → View s
 

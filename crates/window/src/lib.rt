@@ -1,13 +1,10 @@
 // A log read in pieces: one step of a reader that holds only some bytes of it. The pieces may have any
 // size, as a file's reads have; proofs/InPieces.antt shows that such a reader reports what a scan of the
 // whole log finds. Assumes nothing.
-use frame::Front;
+use framing::Front;
 ghost use mathlib.Core.Path.{_≡_};
 ghost use Rattle.window.specs.Step.{stepOf};
 ghost use Rattle.window.specs.Slide.{Slid};
-
-// No frame is longer. A reader that can hold this many bytes has room whenever next_step asks for more.
-pub const LONGEST_FRAME: usize = 32 + frame::kind::MAX_PLAINTEXT;
 
 // What a reader does next: it reports the frame at the front of the bytes that it holds and drops it, or
 // it reads more of the log, or it stops for the reason given, 0 at the log's exact end.

@@ -6,9 +6,9 @@ use mathlib.Core.Path.{_≡_, sym, ap, _∙_}
 use native.Mathlib.Omega.{arith}
 use borrow.Author.Needs.{needs}
 use borrow.Author.Tests.{not-true, not-false}
-use Rattle.frame.specs.Kinds.{isKnown, isAllowed}
-use Rattle.frame.specs.Front.{kindOf, sealedLen}
-use Rattle.frame.proofs.Fronts.{no-mark, wrong-mark, no-kind, wrong-kind, no-length, wrong-length, no-end, whole}
+use Rattle.framing.specs.Kinds.{isKnown, isAllowed}
+use Rattle.framing.specs.Front.{kindOf, sealedLen}
+use Rattle.framing.proofs.Fronts.{no-mark, wrong-mark, no-kind, wrong-kind, no-length, wrong-length, no-end, whole}
 use Rattle.frame.proofs.front_of.Statement.{statement}
 use Rattle.frame.proofs.front_of.Tie as tie
 

@@ -6,11 +6,11 @@ use native.Mathlib.Omega.{arith}
 use borrow.Author.Needs.{needs}
 use lib.ListN.{length, drop, length-drop}
 use lib.Seq.{length-take-le, take-all}
-use Rattle.frame.specs.declared.Front.the-variants.{Whole}
-use Rattle.frame.specs.Front.{frontOf}
-use Rattle.frame.specs.Scan.{ahead, scanOf}
-use Rattle.frame.proofs.Whole.{is-whole, whole-bounds}
-use Rattle.frame.proofs.Scans.{turn-whole, turn-stop, turn-end, at-start}
+use Rattle.framing.specs.declared.Front.the-variants.{Whole}
+use Rattle.framing.specs.Front.{frontOf}
+use Rattle.framing.specs.Scan.{ahead, scanOf}
+use Rattle.framing.proofs.Whole.{is-whole, whole-bounds}
+use Rattle.frame.proofs.Turns.{turn-whole, turn-stop, turn-end, at-start}
 use Rattle.frame.proofs.scan.Statement.{statement}
 use Rattle.frame.proofs.scan.Tie as tie
 

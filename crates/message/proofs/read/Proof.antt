@@ -1,7 +1,7 @@
 -- `message::read` meets its contract. Assumes nothing.
 use mathlib.Core.Path.{sym, _∙_}
 use borrow.Author.Needs.{needs}
-use Rattle.message.proofs.Reading.{stops}
+use Rattle.message.proofs.Delivery.{stops}
 use Rattle.message.proofs.read.Statement.{statement}
 use Rattle.message.proofs.read.Tie as tie
 

@@ -2,7 +2,7 @@
 use mathlib.Core.Path.{sym, _∙_}
 use native.Mathlib.Omega.{arith}
 use borrow.Author.Needs.{needs}
-use Rattle.message.proofs.Writing.{passed-short}
+use Rattle.messaging.proofs.Writing.{passed-short}
 use Rattle.message.proofs.Placing.{plain-refused, no-room, sealing-refused, written-done}
 use Rattle.message.proofs.write.Statement.{statement}
 use Rattle.message.proofs.write.Tie as tie

@@ -1,4 +1,4 @@
--- `aead::bytes::copy` meets its contract: after i turns the first i bytes are src's. Assumes nothing.
+-- `octets::copy` meets its contract: after i turns the first i bytes are src's. Assumes nothing.
 use Prim.Native.Nat.{_-_, _≤_}
 use mathlib.Core.Path.{_≡_, refl, _∙_}
 use mathlib.Core.List.{_++_}

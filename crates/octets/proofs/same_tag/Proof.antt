@@ -1,4 +1,4 @@
--- `aead::bytes::same_tag` meets its contract: after i turns no difference is gathered exactly where the first i bytes are the same.
+-- `octets::same_tag` meets its contract: after i turns no difference is gathered exactly where the first i bytes are the same.
 -- Assumes nothing.
 use Prim.Native.Nat.{_-_, _≤_}
 use mathlib.Core.Path.{_≡_, _∙_}

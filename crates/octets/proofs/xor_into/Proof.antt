@@ -1,4 +1,4 @@
--- `aead::bytes::xor_into` meets its contract: after i turns the first i bytes of the pad are added. Assumes nothing.
+-- `octets::xor_into` meets its contract: after i turns the first i bytes of the pad are added. Assumes nothing.
 use Prim.Native.Nat.{_-_, _≤_}
 use mathlib.Core.Path.{_≡_, refl, sym, _∙_}
 use native.Mathlib.Omega.{arith}

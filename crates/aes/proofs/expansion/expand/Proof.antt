@@ -32,7 +32,7 @@ loop-again c =
     let a = start .args in
     let next = after-sum .sum .ensures
     ∙ ap₂ sum (after-word .word .ensures) (after-temp .temp .ensures ∙ ap (temp (a .nk) (l .i)) (after-word2 .word2 .ensures)) in
-    (search needs, search needs, search needs, expand-turn (a .nk) (take (4 * a .nk) (a .w .now)) (l .w) _ _ (l .i) (omega (arith, start .pre)) (l .inv .0) (omega arith) (l .inv .3) next (after-put .put .ensures))
+    (search needs, search needs, search needs, expand-turn (a .nk) (take (4 * a .nk) (a .w .now)) (l .w) _ _ (l .i) _ (omega (arith, start .pre)) (l .inv .0) (omega arith) (l .inv .3) next (after-put .put .ensures))
 
 returns : tie.Need-returns Inv-loop μ-loop
 returns c =

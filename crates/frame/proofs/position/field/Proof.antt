@@ -2,7 +2,7 @@
 use mir.Facts.{toZ-ofZ}
 use borrow.Author.Needs.{needs}
 use mathlib.Core.Path.{_∙_, ap}
-use Rattle.frame.specs.Signed.{signed}
+use Rattle.framing.specs.Signed.{signed}
 use Rattle.frame.proofs.position.field.Statement.{statement}
 use Rattle.frame.proofs.position.field.Tie as tie
 

@@ -9,9 +9,9 @@ use Rattle.khumbuseal.proofs.frames.cells_of.Tie as tie
 
 returns : tie.Need-returns
 returns c =
-    let g = c .before .m .given .0 in
-    (λ i. record { answer = 0; kind = 1; lat = toZ-ofZ {w = w32} {z = g .0} (search needs) i; lon = toZ-ofZ {w = w32} {z = g .1 .0} (search needs) i; alt = toZ-ofZ {w = w32} {z = g .1 .1 .0} (search needs) i; time = g .1 .1 .1 .0; len = 0; taken = g .1 .1 .1 .1 .0 })
-    ∙ sym (ap messageCells (c .before .m .given .1))
+    let g = c .before .before .m .given .0 in
+    (λ i. record { answer = 0; kind = 1; lat = toZ-ofZ {w = w32} {z = g .0 .lat} (search needs) i; lon = toZ-ofZ {w = w32} {z = g .0 .lon} (search needs) i; alt = toZ-ofZ {w = w32} {z = g .0 .alt} (search needs) i; time = g .0 .time; len = 0; taken = g .1 .0 })
+    ∙ sym (ap messageCells (c .before .before .m .given .1))
 
 returns-2 : tie.Need-returns-2
 returns-2 c = c .placeless .ensures ∙ sym (ap messageCells (c .before .before .m2 .given .1))

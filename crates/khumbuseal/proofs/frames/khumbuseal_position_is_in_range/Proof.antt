@@ -1,7 +1,7 @@
 -- `khumbuseal::khumbuseal_position_is_in_range` meets its contract. Assumes nothing.
 use mathlib.Core.Path.{_≡_, sym, ap, _∙_}
 use borrow.Author.Needs.{needs}
-use Rattle.frame.specs.Position.{inRange}
+use Rattle.framing.specs.Position.{inRange}
 use Rattle.khumbuseal.proofs.Laws.{position, as-given, yes, no}
 use Rattle.khumbuseal.proofs.frames.khumbuseal_position_is_in_range.Statement.{statement}
 use Rattle.khumbuseal.proofs.frames.khumbuseal_position_is_in_range.Tie as tie

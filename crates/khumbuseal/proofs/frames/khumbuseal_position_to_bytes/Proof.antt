@@ -1,7 +1,7 @@
 -- `khumbuseal::khumbuseal_position_to_bytes` meets its contract. Assumes nothing.
 use mathlib.Core.Path.{ap, _∙_}
 use borrow.Author.Needs.{needs}
-use Rattle.frame.specs.Position.{positionBytes}
+use Rattle.framing.specs.Position.{positionBytes}
 use Rattle.khumbuseal.proofs.Laws.{as-given}
 use Rattle.khumbuseal.proofs.frames.khumbuseal_position_to_bytes.Statement.{statement}
 use Rattle.khumbuseal.proofs.frames.khumbuseal_position_to_bytes.Tie as tie

@@ -3,8 +3,8 @@ use mathlib.Core.Path.{_≡_, sym, ap, _∙_}
 use lib.ListN.{length}
 use lib.Seq.{length-take-le}
 use borrow.Author.Needs.{needs}
-use Rattle.frame.specs.Scan.{scanOf}
-use Rattle.frame.proofs.Longest.{found}
+use Rattle.framing.specs.Scan.{scanOf}
+use Rattle.framing.proofs.Longest.{found}
 use Rattle.khumbuseal.proofs.frames.khumbuseal_scan.Statement.{statement}
 use Rattle.khumbuseal.proofs.frames.khumbuseal_scan.Tie as tie
 

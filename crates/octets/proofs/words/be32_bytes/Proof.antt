@@ -1,0 +1,21 @@
+-- `octets::words::be32_bytes` meets its contract. Assumes nothing.
+use mathlib.Core.Path.{ap}
+use mathlib.Core.List.{reverse}
+use borrow.Author.Needs.{needs}
+use Rattle.octets.proofs.WordBytes.{cells-of}
+use Rattle.octets.proofs.words.be32_bytes.Statement.{statement}
+use Rattle.octets.proofs.words.be32_bytes.Tie as tie
+
+returns : tie.Need-returns
+returns c = ap reverse (cells-of 4 _ (c .le32-bytes .ensures))
+
+pub be32-bytes-spec : {M : Type 1} → statement M
+be32-bytes-spec =
+    tie.close
+    (tie.spec
+    (λ c κs. search needs)
+    (λ c. search needs)
+    (λ c. search needs)
+    (λ c. search needs)
+    (λ c. search needs)
+    returns)
