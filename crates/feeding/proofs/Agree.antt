@@ -25,7 +25,7 @@ use Rattle.feeding.specs.declared.Route.the-variants.{Wide, Narrow, Rf}
 use Rattle.feeding.specs.Key.{powerCount, powerAt, powersFrom, keyOf, hOf, checkOf}
 use Rattle.feeding.specs.Routes.{absorbOn}
 use Rattle.feeding.proofs.Check.{checked}
-use Rattle.feeding.specs.Formulas.{paired, groupOf, groupsOf, rfRun}
+use Rattle.feeding.specs.Formulas.{paired, groupOf, groupsOf, rfRun, inGroups, alone}
 use Rattle.rfc8452.proofs.Run.{run-lt, run-++}
 use Rattle.feeding.proofs.Powers.{nth, nth-lt, power-at}
 use Rattle.feeding.proofs.Paired.{group-elements}
@@ -36,6 +36,12 @@ abbrev pub Ends : List ℕ → Type 0
 Ends [] = ⊥
 Ends (n ∷ []) = n ≡ 1
 Ends (n ∷ m ∷ ns) = (0 < n) × (n ≤ powerCount) × Ends (m ∷ ns)
+
+pub groups-end : Ends inGroups
+groups-end = (lit< tt, lit≤ tt, refl)
+
+pub lones-end : Ends alone
+lones-end = refl
 
 elements-take : (n : ℕ) (xs : List ℕ) → Elements xs → Elements (take n xs)
 elements-take zero xs e = tt

@@ -26,7 +26,7 @@ use Rattle.feeding.specs.Routes.{absorbOn}
 use Rattle.rfc8452.proofs.Run.{run-lt, run-++}
 use Rattle.rfc8452.proofs.Cut.{blocks-++}
 use Rattle.rfc8452.proofs.Parts.{blocks-elements}
-use Rattle.feeding.proofs.Agree.{Checked, agree}
+use Rattle.feeding.proofs.Agree.{groups-end, lones-end, Checked, agree}
 use Rattle.feeding.specs.declared.Hash.{Hash}
 use Rattle.feeding.specs.declared.Fed.{Fed}
 use Rattle.feeding.specs.Record.{pendingOf, heldBy, holding, zeroHash, fedOr, finishedOr}
@@ -110,7 +110,7 @@ module _ (h : Hash) (ok : Stored h) (route : Route) (good : Checked route (h .ke
   absorbed-step : Takes h (absorbed route h s .hash) w
   absorbed-step =
       holding-step h ok (absorbOn route inGroups (h .key) (heldBy h) (blocks s)) (blocks s) [] w
-      (agree route inGroups (h .key) (heldBy h) (blocks s) good (lit< tt, lit≤ tt, refl) (ok .sized) (blocks-elements s bytes)) (lit≤ tt) tt
+      (agree route inGroups (h .key) (heldBy h) (blocks s) good groups-end (ok .sized) (blocks-elements s bytes)) (lit≤ tt) tt
       (λ rest. ap (λ n. blocks (take n (h .pending) ++ (w ++ rest))) none ∙ blocks-++ w rest whole ∙ ap (λ b. b ++ blocks rest) same-blocks)
 
 -- a piece
@@ -125,7 +125,7 @@ module _ (h : Hash) (ok : Stored h) (route : Route) (good : Checked route (h .ke
   unfolding pieced
   pieced-step =
       holding-step h ok (absorbOn route alone (h .key) (heldBy h) (blocks (wholePart (pendingOf h ++ s)))) (blocks (wholePart (pendingOf h ++ s))) (shortPart (pendingOf h ++ s)) s
-      (agree route alone (h .key) (heldBy h) (blocks (wholePart (pendingOf h ++ s))) good refl (ok .sized)
+      (agree route alone (h .key) (heldBy h) (blocks (wholePart (pendingOf h ++ s))) good lones-end (ok .sized)
       (blocks-elements (wholePart (pendingOf h ++ s)) (bytes-take (length (pendingOf h ++ s) / 16 * 16) (pendingOf h ++ s) d-bytes)))
       (omega (arith, short-length (pendingOf h ++ s))) (bytes-drop (length (pendingOf h ++ s) / 16 * 16) (pendingOf h ++ s) d-bytes)
       (λ rest. ap blocks (sym (append-assoc (pendingOf h) s rest)) ∙ cut-blocks (pendingOf h ++ s) rest)
@@ -180,7 +180,7 @@ one-hash h fs route ok few proper good done-all =
     let H : ℕ = value (hOf (g .key)) in
     let s : ℕ = value (g .acc) in
     let xs : List ℕ = blocks (pendingOf g) in
-    let last = agree route alone (g .key) (heldBy g) xs (subst (Checked route) (sym (all .1)) good) refl (all .0 .sized)
+    let last = agree route alone (g .key) (heldBy g) xs (subst (Checked route) (sym (all .1)) good) lones-end (all .0 .sized)
     (blocks-elements (pendingOf g) (bytes-take (g .count) (g .pending) (all .0 .bytes))) in (
       ap (λ r. r .answer) made,
       ap (λ r. r .tag) made

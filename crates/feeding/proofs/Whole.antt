@@ -4,7 +4,7 @@ use mathlib.Core.Bool.{true, cond, not, _&&_}
 use mathlib.Core.List.{List, [], _∷_, _++_}
 use Prim.Native.Nat.{ℕ, _/_, _%_, _^_, _<_}
 use native.Mathlib.Omega.{arith}
-use lib.Dec.{ltb, lit<, lit≤}
+use lib.Dec.{ltb}
 use lib.ListN.{length, replicate, length-append}
 use lib.Pow.{pow-pos}
 use borrow.Author.Tests.{eq-eqb}
@@ -30,7 +30,7 @@ use Rattle.rfc8452.proofs.Run.{run-lt, run-++}
 use Rattle.rfc8452.proofs.Cut.{blocks-++}
 use Rattle.rfc8452.proofs.Parts.{blocks-length, blocks-elements}
 use Rattle.feeding.proofs.Check.{made-checks, value-hOf}
-use Rattle.feeding.proofs.Agree.{Checked, agree}
+use Rattle.feeding.proofs.Agree.{groups-end, Checked, agree}
 use Rattle.feeding.specs.declared.Hash.{Hash}
 use Rattle.feeding.specs.Record.{holding, fedOr}
 use Rattle.feeding.specs.Calls.{startOf, absorbed, wholeOf}
@@ -91,7 +91,7 @@ module _ (key : List ℕ) (long : length key ≡ 16) (bytes : Bytes key) where
   pub fed-part : (route : Route) (s : List ℕ) → length s % 16 ≡ 0 → Bytes s → wholeOf route (startOf key .hash) s .hash ≡ made s
   fed-part route s whole b =
       let begun : Hash = holding (keyOf H) (counted 0 expansionCost) [] .hash in
-      let acc = agree route inGroups (keyOf H) (record { element = element 0; multiplies = 0 }) (blocks s) (good route) (lit< tt, lit≤ tt, refl) (element-sized 0) (blocks-elements s b)
+      let acc = agree route inGroups (keyOf H) (record { element = element 0; multiplies = 0 }) (blocks s) (good route) groups-end (element-sized 0) (blocks-elements s b)
       ∙ ap (λ n. element (run n 0 (blocks s))) (value-hOf H h-lt) in
       ap (λ r. wholeOf route (r .hash) s .hash) (started key long bytes)
       ∙ ap (λ t. fedOr (cond (not t) notWholeBlocks done) (absorbed route begun s) .hash) (eq-eqb (length s % 16) 0 whole)
