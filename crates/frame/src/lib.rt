@@ -3,22 +3,16 @@
 // Assumes nothing.
 use framing::Front;
 use framing::MARK;
+use octets::words::le16;
 
 pub mod kind;
 pub mod position;
 
 ghost use mathlib.Core.Path.{_≡_};
-ghost use Prim.Native.Nat.{_+_, _*_, _<_};
+ghost use Prim.Native.Nat.{_+_, _<_};
 ghost use denote.Ref.{ptr};
 ghost use Rattle.framing.specs.Front.{frontOf};
 ghost use Rattle.framing.specs.Scan.{Scanned};
-
-// A little-endian number of two bytes.
-fn le16(lo: u8, hi: u8) -> usize
-    ensures { λ r. ⌜ (r ≡ lo + hi * 256) × (r < 65536) ⌝ }
-{
-    lo as usize + hi as usize * 256
-}
 
 // Decides 9 to 12 for reading, for the scan and for the log program alike. Bytes behind the frame play
 // no part; a byte that a check needs and that is not there is 12 at that check.
@@ -41,7 +35,7 @@ pub fn front_of(s: &[u8]) -> Front
     if s.len() < 4 {
         return Front::Stop(answer::CUT_SHORT);
     }
-    let sealed = le16(s[2], s[3]);
+    let sealed = le16(s[2], s[3]) as usize;
     if !kind::is_allowed(kind, sealed) {
         return Front::Stop(answer::LENGTH_FOR_KIND);
     }

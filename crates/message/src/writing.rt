@@ -29,12 +29,8 @@ fn header(kind: u8, sealed: usize) -> [u8; 4]
     requires { ⌜ sealed < 65536 ⌝ }
     ensures { λ r. ⌜ r ≡ header kind sealed ⌝ }
 {
-    [
-        framing::MARK,
-        kind,
-        (sealed % 256) as u8,
-        (sealed / 256) as u8,
-    ]
+    let len = octets::words::le16_bytes(sealed as u16);
+    [framing::MARK, kind, len[0], len[1]]
 }
 
 // Puts what stands before the sealed part to the front of out: the associated data, then the nonce.

@@ -20,11 +20,11 @@ use Rattle.sealing.proofs.Done.{seal-done, sealable}
 use Rattle.rfc8452.specs.Siv.{sealed}
 use Rattle.sealing.specs.Siv.{sealAnswer}
 use Rattle.framing.specs.Kinds.{table, isKnown, isAllowed, maxFramePlaintext}
-use Rattle.framing.specs.Front.{mark, sealedLen}
+use Rattle.framing.specs.Front.{sealedLen}
 use Rattle.framing.proofs.Rows.{allowed-bounds, longest-fits}
 use Rattle.framing.proofs.Whole.{IsWhole, whole-is}
 use Rattle.framing.proofs.Longest.{IsFrame}
-use Rattle.messaging.specs.Parts.{header, adOf, frameOf, adIn, nonceIn, sealedIn}
+use Rattle.messaging.specs.Parts.{adOf, frameOf, adIn, nonceIn, sealedIn}
 use Rattle.messaging.specs.Message.{contentAnswer}
 use Rattle.messaging.specs.Write.{kindAnswer, plainAnswer, writeAnswer, writtenOf, writeOut}
 use Rattle.rfc8452.proofs.Sealing.{sealed-length}
@@ -95,12 +95,7 @@ writable kind key nonce text room e =
     let r = s .room in
     record { known = k .0; allowed = k .1; content = plain .1; key-length = s .keyed .key; nonce-length = s .keyed .nonce; roomy = omega arith }
 
--- the length field, as the code writes it
-pub len-bytes : (kind n : ℕ) → n < 65536 → mark ∷ kind ∷ n % 256 ∷ n / 256 ∷ [] ≡ header kind n
-unfolding bytesOf
-len-bytes kind n h = let top : n / 256 ≡ n / 256 % 256 = omega arith in ap (λ x. mark ∷ kind ∷ n % 256 ∷ x ∷ []) top
-
--- and as it is read again
+-- the length field, as it is read again
 two-bytes : (n : ℕ) → n < 65536 → n % 256 + n / 256 % 256 * 256 ≡ n
 two-bytes n h = omega arith
 

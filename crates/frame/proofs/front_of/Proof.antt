@@ -1,16 +1,22 @@
 -- `frame::front_of` meets its contract: each return is a law of proofs/Fronts.antt. Assumes nothing.
-use Prim.Native.Nat.{ℕ}
-use mathlib.Core.List.{List}
+use Prim.Native.Nat.{ℕ, _+_, _*_}
+use mathlib.Core.List.{List, [], _∷_}
 use mathlib.Core.Bool.{true}
 use mathlib.Core.Path.{_≡_, sym, ap, _∙_}
 use native.Mathlib.Omega.{arith}
 use borrow.Author.Needs.{needs}
 use borrow.Author.Tests.{not-true, not-false}
+use Rattle.octets.specs.Numbers.{number}
 use Rattle.framing.specs.Kinds.{isKnown, isAllowed}
 use Rattle.framing.specs.Front.{kindOf, sealedLen}
 use Rattle.framing.proofs.Fronts.{no-mark, wrong-mark, no-kind, wrong-kind, no-length, wrong-length, no-end, whole}
 use Rattle.frame.proofs.front_of.Statement.{statement}
 use Rattle.frame.proofs.front_of.Tie as tie
+
+-- two bytes spell a length as the definition adds them up
+two-bytes : (lo hi : ℕ) → number (lo ∷ hi ∷ []) ≡ lo + hi * 256
+unfolding number
+two-bytes lo hi = omega arith
 
 returns : tie.Need-returns
 returns c = no-mark _ (c .if1 .taken)
@@ -35,7 +41,7 @@ module _ (c : tie.After-is-allowed) where
   is-kind = sym (c .before .before .before .before .before .before .is-known .ensures) ∙ not-false _ (c .before .before .before .before .before .if4 .left)
 
   len-is : c .before .le16 .result ≡ sealedLen s
-  len-is = c .before .le16 .ensures .0
+  len-is = c .before .le16 .ensures .value ∙ two-bytes _ _
 
   allowed-is : isAllowed (kindOf s) (sealedLen s) ≡ c .is-allowed .result
   allowed-is = sym (c .is-allowed .ensures ∙ ap (isAllowed (kindOf s)) len-is)
@@ -64,6 +70,7 @@ front-of-spec =
     (λ c. search needs)
     (λ c. search needs)
     (λ c κs. search needs)
+    (λ c. search needs)
     (λ c κs. search needs)
     returns-6
     (λ c. search needs)
