@@ -2,7 +2,7 @@
 use Prim.Native.Nat.{ℕ, zero, suc, _+_, _-_, _*_, _%_, _^_, _<_, min}
 use mathlib.Core.Path.{_≡_, sym, ap, _∙_, subst}
 use mathlib.Core.List.{List, [], _∷_, _++_, append-nil}
-use native.Mathlib.Nat.{zero-add, zero-mul, mod-eq-of-lt}
+use native.Mathlib.Nat.{zero-add, mod-eq-of-lt}
 use native.Mathlib.Numerals.{add-one}
 use native.Mathlib.Omega.{arith}
 use lib.ListN.{length, set, take, drop, replicate, length-append, drop-of-length-le}
@@ -17,13 +17,6 @@ use Rattle.feeding.specs.declared.Hash.{Hash}
 use Rattle.octets.specs.Places.{Wrote}
 use Rattle.record.specs.Bytes.{elementBytes, powersBytes, recordBytes, recordSize, powerIn, powersAt}
 use Rattle.record.proofs.Powers.{powers-length}
-
--- the first eight of sixteen bytes
-pub eight : (e : FieldElement) (n : ℕ) → e .lo ≡ n → e .hi ≡ 0 → take 8 (bytesOf 16 (value e)) ≡ bytesOf 8 n
-unfolding bytesOf
-eight e n p q =
-    let z : value e ≡ n = (λ i. q i * 2 ^ 64 + p i) ∙ rw zero-mul (zero-add n) in
-    ap (λ (m : ℕ). take 8 (bytesOf 16 m)) z
 
 -- a record's bytes fill a buffer of its size: what was there plays no part
 pub whole-record : (h : Hash) (zeros out : List ℕ) (next : ℕ) → length (h .key .powers) ≡ powerCount → length (h .pending) ≡ 16 → length zeros ≡ recordSize

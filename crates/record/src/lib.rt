@@ -5,6 +5,7 @@ use feeding::Hash;
 use feeding::POWERS;
 use feeding::Power;
 use field::FieldElement;
+use octets::words::le64_bytes;
 use polyval::block;
 ghost use mathlib.Core.Path.{_≡_};
 ghost use mathlib.Core.List.{[], _∷_};
@@ -57,16 +58,13 @@ fn put_powers(out: &mut [u8], powers: [Power; POWERS]) -> usize
     at
 }
 
-// The first 8 bytes of a number, at a place.
+// The 8 bytes of a number, at a place.
 fn put_count(out: &mut [u8], at: usize, n: usize) -> usize
     requires { ⌜ at + 8 ≤ length (now out) ⌝ }
     ensures { λ r. ⌜ Wrote (now (out .entry)) at (bytesOf 8 n) (now (out .exit)) r ⌝ }
 {
-    let b = FieldElement {
-        lo: n as u64,
-        hi: 0,
-    }.to_bytes();
-    octets::put(out, at, &b[..8])
+    let b = le64_bytes(n as u64);
+    octets::put(out, at, &b)
 }
 
 // The record as bytes.
