@@ -7,7 +7,8 @@ use native.Mathlib.Omega.{arith}
 use lib.ListN.{length, take, replicate, length-append, length-replicate, length-drop, take-append-drop}
 use lib.Seq.{take-at, length-take-le}
 use Rattle.rfc8452.specs.Blocks.{blocks}
-use Rattle.rfc8452.proofs.Cut.{blocks-one, blocks-++, number-zeros}
+use Rattle.rfc8452.proofs.Cut.{blocks-one, blocks-++}
+use Rattle.octets.proofs.Numbers.{number-zeros}
 use Rattle.feeding.specs.Record.{filled}
 use Rattle.feeding.specs.Calls.{wholePart, shortPart}
 use Rattle.feeding.specs.Feeds.{toBlocks}

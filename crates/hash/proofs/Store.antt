@@ -7,7 +7,8 @@ use native.Mathlib.Omega.{arith}
 use lib.ListN.{length, take, drop, replicate, length-append}
 use lib.Seq.{paste, take-all, take-at, take-add, take-append-add, drop-append-add, length-take-le}
 use Rattle.rfc8452.specs.Blocks.{blocks}
-use Rattle.rfc8452.proofs.Cut.{blocks-++, drop-zeros, pasted-zeros}
+use Rattle.rfc8452.proofs.Cut.{blocks-++, pasted-zeros}
+use Rattle.octets.proofs.Parts.{drop-zeros}
 use Rattle.feeding.specs.Record.{filled}
 use Rattle.feeding.specs.Calls.{wholePart, shortPart}
 

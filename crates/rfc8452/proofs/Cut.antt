@@ -8,10 +8,8 @@ use lib.ListN.{length, take, drop, replicate, length-append, length-take, length
 use lib.Dec.{lit≤}
 use lib.Seq.{paste, take-append-le, drop-append-le, take-add, take-all, length-take-le}
 use Rattle.octets.specs.Numbers.{number}
-use Rattle.octets.proofs.Numbers.{Bytes, bytes-take, number-lt}
-pub use Rattle.octets.proofs.Numbers.{number-zeros}
-use Rattle.octets.proofs.Parts.{take-front}
-pub use Rattle.octets.proofs.Parts.{part-rest, drop-zeros}
+use Rattle.octets.proofs.Numbers.{Bytes, bytes-take, number-lt, number-zeros}
+use Rattle.octets.proofs.Parts.{take-front, drop-zeros}
 use Rattle.rfc8452.specs.Blocks.{blocksN, blocks}
 
 blocksN-++ : (m n : ℕ) (s t : List ℕ) → length s ≡ m * 16 → blocksN (m + n) (s ++ t) ≡ blocksN m s ++ blocksN n t

@@ -8,7 +8,7 @@ use lib.ListN.{length, take, drop, length-drop}
 use lib.Seq.{take-take, take-nil, drop-nil, drop-drop}
 use Rattle.octets.specs.Numbers.{number}
 use Rattle.octets.proofs.Numbers.{Bytes, bytes-drop}
-pub use Rattle.octets.proofs.Parts.{drop-take, part-taken, part-left}
+use Rattle.octets.proofs.Parts.{drop-take}
 use Rattle.gf2.proofs.Roots.{Elements}
 use Rattle.rfc8452.specs.Blocks.{blocksN, blocks}
 use Rattle.rfc8452.proofs.Cut.{blocks-none, block-lt}

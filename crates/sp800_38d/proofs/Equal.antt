@@ -11,11 +11,10 @@ use Rattle.gf2.specs.Polyval.{mulx, dot}
 use Rattle.octets.specs.Numbers.{number, bytesOf}
 use Rattle.octets.proofs.Xor.{⊕-lt}
 use Rattle.gf2.proofs.Dot.{dot-lt}
-use Rattle.octets.proofs.Numbers.{Bytes, bytes-zeros, bytes-++, bytes-take, bytes-drop, bytesOf-number}
+use Rattle.octets.proofs.Numbers.{Bytes, bytes-zeros, bytes-++, bytes-take, bytes-drop, bytesOf-number, number-zeros}
 use Rattle.gf2.proofs.Roots.{Elements}
 use Rattle.rfc8452.specs.Machine.{step, run, polyval}
 use Rattle.rfc8452.specs.Blocks.{blocksN, blocks}
-use Rattle.rfc8452.proofs.Cut.{number-zeros}
 use Rattle.sp800_38d.specs.Ghash.{ghashFrom, ghashOf, bitString, bitBlocksN, bitBlocks}
 use Rattle.rfc8452.specs.AppendixA.{reversed, keyFor}
 use Rattle.rfc8452.proofs.Reversed.{reversed-lt}

@@ -8,7 +8,7 @@ use Rattle.field.proofs.Element.{Sized}
 use Rattle.rfc8452.specs.Blocks.{blocks}
 use Rattle.feeding.specs.Formulas.{alone}
 use Rattle.feeding.specs.Routes.{absorbOn}
-use Rattle.rfc8452.proofs.Cut.{part-rest}
+use Rattle.octets.proofs.Parts.{part-rest}
 use Rattle.feeding.proofs.Alone.{alone-++}
 use Rattle.feeding.specs.Record.{pendingOf, heldBy, holding}
 use Rattle.feeding.specs.Calls.{pieced}

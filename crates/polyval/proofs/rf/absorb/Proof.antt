@@ -1,5 +1,5 @@
 -- `polyval::rf::absorb` meets its contract. Assumes nothing.
-use Prim.Native.Nat.{ℕ, suc, _+_, _-_, _*_, _≤_, _<_}
+use Prim.Native.Nat.{suc, _+_, _-_, _≤_}
 use mathlib.Core.Path.{_≡_, refl, sym, ap, _∙_, subst}
 use mathlib.Core.List.{_∷_}
 use native.Mathlib.Numerals.{add-one}
@@ -7,7 +7,7 @@ use native.Mathlib.Omega.{arith}
 use borrow.Author.Needs.{needs}
 use lib.ListN.{length, getD, drop, length-take, length-drop}
 use Rattle.rfc8452.specs.Blocks.{blocks}
-use Rattle.rfc8452.proofs.Cut.{part-rest}
+use Rattle.octets.proofs.Parts.{part-rest}
 use Rattle.rfc8452.proofs.Parts.{blocks-length}
 use Rattle.feeding.specs.Formulas.{rfRun}
 use Rattle.polyval.specs.Sizes.{Fits}
