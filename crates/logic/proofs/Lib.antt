@@ -1,2 +1,3 @@
--- Laws of tests.
+-- Laws of tests, and what uniqueness comes to.
 pub mod Tests
+pub mod Choice
