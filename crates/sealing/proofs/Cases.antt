@@ -2,7 +2,7 @@
 -- alone decide, so each is computed. The limits stand here by number, since they are the limits' own cases. Assumes nothing.
 use mathlib.Core.Path.{_≡_, refl}
 use mathlib.Core.Bool.{true, false}
-use Rattle.sealing.specs.Calls.{sealAnswer, openAnswer}
+use Rattle.sealing.specs.Calls.{sealAnswer, openAnswer, logAnswer}
 
 -- keys of 16 and 32 bytes, and no other
 keys : (sealAnswer 0 12 0 0 16 ≡ 1) × (sealAnswer 15 12 0 0 16 ≡ 1) × (sealAnswer 16 12 0 0 16 ≡ 0) × (sealAnswer 17 12 0 0 16 ≡ 1)
@@ -35,3 +35,7 @@ seal-order = (refl, refl, refl, refl, refl)
 open-order : (openAnswer 0 0 257 0 0 false ≡ 1) × (openAnswer 16 0 257 0 0 false ≡ 2) × (openAnswer 16 12 257 0 0 false ≡ 4) × (openAnswer 16 12 0 0 0 false ≡ 6)
     × (openAnswer 16 12 0 4113 0 false ≡ 5) × (openAnswer 16 12 0 17 0 false ≡ 7) × (openAnswer 16 12 0 17 1 false ≡ 8)
 open-order = (refl, refl, refl, refl, refl, refl, refl)
+
+-- "a program's log is over 1,048,576 bytes"
+logs : (logAnswer 0 ≡ 0) × (logAnswer 1000001 ≡ 0) × (logAnswer 1048576 ≡ 0) × (logAnswer 1048577 ≡ 15)
+logs = (refl, refl, refl, refl)

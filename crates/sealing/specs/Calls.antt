@@ -5,8 +5,8 @@ use mathlib.Core.Bool.{Bool, not, cond, _&&_}
 use mathlib.Core.List.{List, [], _∷_}
 use lib.Dec.{eqb, ltb}
 use Rattle.octets.specs.Places.{over}
-use Rattle.answer.specs.Answers.{done, keyLength, nonceLength, adTooLong, textTooLong, sealedTooShort, noRoom, tagDiffers}
-use Rattle.sealing.specs.Limits.{maxAd, maxPlaintext, maxSealed}
+use Rattle.answer.specs.Answers.{done, keyLength, nonceLength, adTooLong, textTooLong, sealedTooShort, noRoom, tagDiffers, logTooLong}
+use Rattle.sealing.specs.Limits.{maxAd, maxPlaintext, maxSealed, maxLog}
 use Rattle.answer.specs.First.{Refusal, _⇒_, first}
 
 -- a sealing key has 16 or 32 bytes, a nonce 12
@@ -33,3 +33,7 @@ openAnswer key nonce ad sealed room authentic =
 -- what a call leaves in out: where it answers 0 the new bytes and what stood behind them, else all as it was
 abbrev pub written : (answer : ℕ) (new out : List ℕ) → List ℕ
 written answer new out = cond (eqb answer done) (over new out) out
+
+-- "Programs: 15, then the calls they make": the answer to a log of so many bytes, before any of it is read
+abbrev pub logAnswer : (log : ℕ) → ℕ
+logAnswer log = first (ltb maxLog log ⇒ logTooLong ∷ [])
