@@ -1,2 +1,3 @@
--- The laws of `first`.
+-- The laws of `first`, and the numbers.
 pub mod First
+pub mod Cases

@@ -2,7 +2,17 @@
 -- alone decide, so each is computed. The limits stand here by number, since they are the limits' own cases. Assumes nothing.
 use mathlib.Core.Path.{_≡_, refl}
 use mathlib.Core.Bool.{true, false}
-use Rattle.sealing.specs.Calls.{sealAnswer, openAnswer, logAnswer}
+use mathlib.Core.List.{List, []}
+use Prim.Native.Nat.{ℕ}
+use lib.ListN.{replicate}
+use Rattle.answer.specs.First.{first}
+use Rattle.sealing.specs.Limits.{maxAd, maxPlaintext, maxSealed, maxLog}
+use Rattle.sealing.specs.Calls.{isNoKey, isNoNonce, commonRefusals, sealAnswer, openAnswer, logAnswer}
+use Rattle.sealing.specs.Siv as siv
+
+-- rows 4, 5 and 15 of the table
+limits : (maxAd ≡ 256) × (maxPlaintext ≡ 4096) × (maxSealed ≡ 4112) × (maxLog ≡ 1048576)
+limits = (refl, refl, refl, refl)
 
 -- keys of 16 and 32 bytes, and no other
 keys : (sealAnswer 0 12 0 0 16 ≡ 1) × (sealAnswer 15 12 0 0 16 ≡ 1) × (sealAnswer 16 12 0 0 16 ≡ 0) × (sealAnswer 17 12 0 0 16 ≡ 1)
@@ -11,6 +21,21 @@ keys = (refl, refl, refl, refl, refl, refl, refl, refl)
 
 nonces : (sealAnswer 16 11 0 0 16 ≡ 2) × (sealAnswer 16 12 0 0 16 ≡ 0) × (sealAnswer 16 13 0 0 16 ≡ 2)
 nonces = (refl, refl, refl)
+
+-- opening asks the same of both
+opening-keys : (openAnswer 15 12 0 16 0 true ≡ 1) × (openAnswer 16 12 0 16 0 true ≡ 0) × (openAnswer 17 12 0 16 0 true ≡ 1) × (openAnswer 31 12 0 16 0 true ≡ 1)
+    × (openAnswer 32 12 0 16 0 true ≡ 0) × (openAnswer 33 12 0 16 0 true ≡ 1)
+opening-keys = (refl, refl, refl, refl, refl, refl)
+
+opening-nonces : (openAnswer 16 11 0 16 0 true ≡ 2) × (openAnswer 32 12 0 16 0 true ≡ 0) × (openAnswer 16 13 0 16 0 true ≡ 2)
+opening-nonces = (refl, refl, refl)
+
+-- what both ask first, by itself
+first-asked : (first (commonRefusals 24 11 257) ≡ 1) × (first (commonRefusals 32 11 257) ≡ 2) × (first (commonRefusals 16 12 257) ≡ 4) × (first (commonRefusals 16 12 256) ≡ 0)
+first-asked = (refl, refl, refl, refl)
+
+lengths-tested : (isNoKey 16 ≡ false) × (isNoKey 24 ≡ true) × (isNoKey 32 ≡ false) × (isNoNonce 12 ≡ false) × (isNoNonce 16 ≡ true)
+lengths-tested = (refl, refl, refl, refl, refl)
 
 associated-data : (sealAnswer 16 12 256 0 16 ≡ 0) × (sealAnswer 16 12 257 0 16 ≡ 4) × (openAnswer 16 12 256 16 0 true ≡ 0) × (openAnswer 16 12 257 16 0 true ≡ 4)
 associated-data = (refl, refl, refl, refl)
@@ -39,3 +64,19 @@ open-order = (refl, refl, refl, refl, refl, refl, refl)
 -- "a program's log is over 1,048,576 bytes"
 logs : (logAnswer 0 ≡ 0) × (logAnswer 1000001 ≡ 0) × (logAnswer 1048576 ≡ 0) × (logAnswer 1048577 ≡ 15)
 logs = (refl, refl, refl, refl)
+
+-- each string is asked by its own length: one too long or too short at a time. Only an opening that passes all of it needs the tag
+zeros : ℕ → List ℕ
+zeros n = replicate n 0
+
+seal-strings : (siv.sealAnswer (zeros 15) (zeros 12) (zeros 256) (zeros 100) 116 ≡ 1) × (siv.sealAnswer (zeros 32) (zeros 13) (zeros 256) (zeros 100) 116 ≡ 2)
+    × (siv.sealAnswer (zeros 32) (zeros 12) (zeros 257) (zeros 100) 116 ≡ 4) × (siv.sealAnswer (zeros 32) (zeros 12) [] (zeros 4097) 4113 ≡ 5)
+    × (siv.sealAnswer (zeros 32) (zeros 12) (zeros 256) (zeros 100) 115 ≡ 7) × (siv.sealAnswer (zeros 32) (zeros 12) (zeros 256) (zeros 100) 116 ≡ 0)
+unfolding zeros
+seal-strings = (refl, refl, refl, refl, refl, refl)
+
+open-strings : (siv.openAnswer (zeros 15) (zeros 12) (zeros 256) (zeros 116) 100 ≡ 1) × (siv.openAnswer (zeros 32) (zeros 13) (zeros 256) (zeros 116) 100 ≡ 2)
+    × (siv.openAnswer (zeros 32) (zeros 12) (zeros 257) (zeros 116) 100 ≡ 4) × (siv.openAnswer (zeros 32) (zeros 12) (zeros 256) (zeros 15) 100 ≡ 6)
+    × (siv.openAnswer (zeros 32) (zeros 12) [] (zeros 4113) 4097 ≡ 5) × (siv.openAnswer (zeros 32) (zeros 12) (zeros 256) (zeros 116) 99 ≡ 7)
+unfolding zeros
+open-strings = (refl, refl, refl, refl, refl, refl)

@@ -2,6 +2,7 @@
 pub mod Refusals
 pub mod Done
 pub mod Written
+pub mod Memory
 pub mod Trips
 pub mod Theorems
 mod Cases
