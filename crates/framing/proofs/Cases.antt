@@ -1,7 +1,7 @@
 -- Document 01's "Cases" that need no tag, proved of the definitions. Assumes nothing.
 use Prim.Native.Nat.{ℕ}
 use mathlib.Core.Path.{_≡_, refl, sym}
-use mathlib.Core.List.{List, [], _∷_, map}
+use mathlib.Core.List.{List, [], _∷_, _++_}
 use mathlib.Core.Bool.{true, false}
 use native.Mathlib.Omega.{arith}
 use lib.IntN.{pos, negℤ}
@@ -10,41 +10,10 @@ use Rattle.octets.specs.Numbers.{number, bytesOf}
 use Rattle.answer.specs.Answers.{notAFrame, unknownKind, lengthForKind, cutShort}
 use Rattle.framing.specs.declared.Front.the-variants.{Whole, Stop}
 use Rattle.framing.specs.Position.{inRange, positionOf, positionBytes}
-use Rattle.framing.specs.Kinds.{position, text, checkIn, row, holds, table, rowOf, isKnown, isAllowed, maxFramePlaintext}
+use Rattle.framing.specs.Kinds.{position, text, checkIn, table, rowOf, isKnown, isAllowed}
 use Rattle.framing.specs.Front.{mark, checks, frontOf}
-use Rattle.framing.specs.Scan.{none, scanFrom, scanOf}
+use Rattle.framing.specs.Scan.{none, ahead, onFront, scanFrom, scanOf}
 use Rattle.framing.proofs.Fronts.{wrong-mark, wrong-kind, wrong-length, no-end, whole}
-
--- the kinds, and what stands next to them
-pub kinds : map isKnown (0 ∷ position ∷ text ∷ checkIn ∷ 4 ∷ 255 ∷ []) ≡ false ∷ true ∷ true ∷ true ∷ false ∷ false ∷ []
-unfolding isKnown rowOf table
-kinds = refl
-
--- the sealed lengths of each kind, with the lengths next to them
-pub position-lengths : map (isAllowed position) (0 ∷ 16 ∷ 31 ∷ 32 ∷ 33 ∷ 48 ∷ []) ≡ false ∷ false ∷ false ∷ true ∷ false ∷ false ∷ []
-unfolding isAllowed rowOf table
-position-lengths = refl
-
-pub text-lengths : map (isAllowed text) (0 ∷ 16 ∷ 17 ∷ 18 ∷ 175 ∷ 176 ∷ 177 ∷ []) ≡ false ∷ false ∷ true ∷ true ∷ true ∷ true ∷ false ∷ []
-unfolding isAllowed rowOf table
-text-lengths = refl
-
-pub check-in-lengths : map (isAllowed checkIn) (0 ∷ 15 ∷ 16 ∷ 17 ∷ []) ≡ false ∷ false ∷ true ∷ false ∷ []
-unfolding isAllowed rowOf table
-check-in-lengths = refl
-
--- a row's lengths go by its step, from its least to its greatest
-pub stepped-lengths : map (holds (row 0 16 48 16)) (0 ∷ 15 ∷ 16 ∷ 17 ∷ 32 ∷ 47 ∷ 48 ∷ 49 ∷ 64 ∷ []) ≡ false ∷ false ∷ true ∷ false ∷ true ∷ false ∷ true ∷ false ∷ false ∷ []
-stepped-lengths = refl
-
-pub no-lengths : map (isAllowed 4) (16 ∷ 32 ∷ []) ≡ false ∷ false ∷ []
-unfolding isAllowed rowOf table
-no-lengths = refl
-
--- a text of 160 bytes is the longest plaintext, and its frame, of 192, the longest frame
-pub longest-text : maxFramePlaintext ≡ 160
-unfolding maxFramePlaintext table
-longest-text = refl
 
 -- a position frame has 48 bytes: with 44 behind its length it is whole, with 43 it is cut
 pub position-48 : (rest : List ℕ) → length rest ≡ 44 → frontOf (mark ∷ position ∷ 32 ∷ 0 ∷ rest) ≡ Whole position 48
@@ -68,22 +37,13 @@ pub text-16 : (rest : List ℕ) → frontOf (mark ∷ text ∷ 16 ∷ 0 ∷ rest
 unfolding isKnown isAllowed rowOf table
 text-16 rest = sym (wrong-length (mark ∷ text ∷ 16 ∷ 0 ∷ rest) (omega arith) refl (omega arith) refl (omega arith) refl)
 
--- the order 9, 10, 11, 12: a wrong mark before an unknown kind, that before a length, each whatever follows; and the first
--- missing byte is 12 at the check that needs it
+-- the order 9, 10, 11, 12: a wrong mark before an unknown kind, that before a length, each whatever follows. Orders has the same on few bytes
 pub wrong-mark-first : (rest : List ℕ) → frontOf (0x4A ∷ rest) ≡ Stop notAFrame
 wrong-mark-first rest = sym (wrong-mark (0x4A ∷ rest) (omega arith) (λ e. omega arith))
 
 pub kind-4-second : (rest : List ℕ) → frontOf (mark ∷ 4 ∷ rest) ≡ Stop unknownKind
 unfolding isKnown rowOf table
 kind-4-second rest = sym (wrong-kind (mark ∷ 4 ∷ rest) (omega arith) refl (omega arith) refl)
-
-pub no-kind-there : frontOf (mark ∷ []) ≡ Stop cutShort
-unfolding checks frontOf
-no-kind-there = refl
-
-pub half-a-length : frontOf (mark ∷ text ∷ 177 ∷ []) ≡ Stop cutShort
-unfolding checks frontOf isKnown rowOf table
-half-a-length = refl
 
 -- the length is little-endian: 0x0020 is a position's, 0x2000 is no kind's
 pub low-byte-first : (rest : List ℕ) → frontOf (mark ∷ position ∷ 0 ∷ 32 ∷ rest) ≡ Stop lengthForKind
@@ -107,6 +67,29 @@ check-in-scans = refl
 pub check-in-cut : scanOf (mark ∷ checkIn ∷ 16 ∷ 0 ∷ replicate 27 7) ≡ none cutShort
 unfolding scanOf scanFrom checks frontOf isKnown isAllowed rowOf table
 check-in-cut = refl
+
+-- behind two whole frames, of 32 and 33 bytes, a scan tells the exact end, or each reason to stop, and counts two all the same
+abbrev two : List ℕ
+two = (0x4B ∷ 3 ∷ 16 ∷ 0 ∷ replicate 28 7) ++ (0x4B ∷ 2 ∷ 17 ∷ 0 ∷ replicate 29 8)
+
+pub two-and-a-stop : (scanOf two ≡ record { taken = 65; frames = 2; stop = 0 }) × (scanOf (two ++ (0x4C ∷ [])) ≡ record { taken = 65; frames = 2; stop = 9 })
+    × (scanOf (two ++ (0x4B ∷ 4 ∷ [])) ≡ record { taken = 65; frames = 2; stop = 10 }) × (scanOf (two ++ (0x4B ∷ 1 ∷ 33 ∷ 0 ∷ [])) ≡ record { taken = 65; frames = 2; stop = 11 })
+    × (scanOf (two ++ (0x4B ∷ [])) ≡ record { taken = 65; frames = 2; stop = 12 })
+unfolding scanOf scanFrom checks frontOf isKnown isAllowed rowOf table
+two-and-a-stop = (refl, refl, refl, refl, refl)
+
+-- and finds nothing behind what is no frame
+pub stop-at-once : (scanOf (0x4C ∷ two) ≡ record { taken = 0; frames = 0; stop = 9 }) × (none 11 ≡ record { taken = 0; frames = 0; stop = 11 })
+unfolding scanOf scanFrom checks frontOf
+stop-at-once = (refl, refl)
+
+-- by its parts: so many frames are looked at and no more; what is found is added to what stands before it
+pub scan-parts : (scanFrom 1 two ≡ record { taken = 32; frames = 1; stop = 0 }) × (scanFrom 0 two ≡ record { taken = 0; frames = 0; stop = 0 })
+    × (ahead 100 2 (record { taken = 30; frames = 1; stop = 9 }) ≡ record { taken = 130; frames = 3; stop = 9 })
+    × (onFront (λ t. record { taken = t; frames = 5; stop = 12 }) (Whole 3 32) ≡ record { taken = 64; frames = 6; stop = 12 })
+    × (onFront (λ t. record { taken = t; frames = 5; stop = 12 }) (Stop 10) ≡ record { taken = 0; frames = 0; stop = 10 })
+unfolding scanFrom checks frontOf isKnown isAllowed rowOf table
+scan-parts = (refl, refl, refl, refl, refl)
 
 -- altitude 1,000,000 stands; 1,000,001 does not
 pub highest : inRange (record { lat = pos 0; lon = pos 0; alt = pos 1000000; time = 0 }) ≡ true

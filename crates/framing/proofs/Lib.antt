@@ -8,4 +8,6 @@ pub mod Whole
 pub mod Scans
 pub mod Longest
 pub mod NoCutFrame
+pub mod Numbers
+pub mod Orders
 pub mod Cases

@@ -11,7 +11,7 @@ use lib.Seq.{length-take-le, drop-append-seam, take-add, drop-drop}
 use Rattle.framing.specs.declared.Front.{Front}
 use Rattle.framing.specs.declared.Front.the-variants.{Whole, Stop}
 use Rattle.framing.specs.Front.{frontOf}
-use Rattle.framing.specs.Scan.{Scan, none, ahead, scanOf}
+use Rattle.framing.specs.Scan.{Scan, none, ahead, scanOf, Scanned}
 use Rattle.answer.specs.Answers.{notAFrame, cutShort}
 use Rattle.framing.proofs.Fronts.{reason}
 use Rattle.framing.proofs.Whole.{is-whole, whole-is, whole-bounds, whole-before, whole-alone}
@@ -120,3 +120,18 @@ stop-numbers log = by (found log .reason)
     by : Stops (drop (scanOf log .taken) log) (scanOf log .stop) → ((scanOf log .stop ≡ 0) × (scanOf log .taken ≡ length log)) ⊎ ((notAFrame ≤ scanOf log .stop) × (scanOf log .stop ≤ cutShort))
     by (inl (e, z)) = inl (z, let l : length log - scanOf log .taken ≡ 0 = rw length-drop at (ap length e) in let i = found log .inside in omega arith)
     by (inr (h, e)) = let r = reason (drop (scanOf log .taken) log) (scanOf log .stop) e in inr (r .1, r .2)
+
+-- the call: the part that it hands back begins the log, is made of whole frames, as many as it says, and what follows is why there is no more
+pub handed-back : (log part : List ℕ) (frames stop : ℕ) → Scanned log part frames stop
+    → (part ≡ take (length part) log) × Found log (record { taken = length part; frames = frames; stop = stop })
+handed-back log part frames stop s =
+    let long : length part ≡ scanOf log .taken = ap length (s .part-is) ∙ length-take-le (scanOf log .taken) log (found log .inside) in (
+      s .part-is ∙ ap (λ n. take n log) (sym long),
+      subst (Found log) (λ i. record { taken = sym long i; frames = sym (s .frames-is) i; stop = sym (s .stop-is) i }) (found log),
+    )
+
+-- and where no frame stands at the front it hands back nothing and counts nothing, for that reason
+pub nothing-handed-back : (log part : List ℕ) (frames stop r : ℕ) → Scanned log part frames stop → 0 < length log → frontOf log ≡ Stop r → (part ≡ []) × (frames ≡ 0) × (stop ≡ r)
+nothing-handed-back log part frames stop r s h e =
+    let none-is = scan-stop log h r e in
+    (s .part-is ∙ ap (λ x. take (x .taken) log) none-is, s .frames-is ∙ ap (λ x. x .frames) none-is, s .stop-is ∙ ap (λ x. x .stop) none-is)

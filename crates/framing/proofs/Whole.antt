@@ -98,6 +98,13 @@ whole-alone s kind taken w =
     let t = whole-bounds s kind taken w in
     same-front s (take taken s) kind taken (λ i h. getD-take taken s i 0 (omega arith)) (rw (length-take-le taken s (w .inside)) (omega arith)) w
 
+-- the same of what stands at the front: for any whole frame, whoever made it, with its own bytes alone or with anything behind them
+pub front-before : (s rest : List ℕ) (kind taken : ℕ) → frontOf s ≡ Whole kind taken → frontOf (s ++ rest) ≡ Whole kind taken
+front-before s rest kind taken e = whole-is (s ++ rest) kind taken (whole-before s rest kind taken (is-whole s kind taken e))
+
+pub front-alone : (s : List ℕ) (kind taken : ℕ) → frontOf s ≡ Whole kind taken → frontOf (take taken s) ≡ Whole kind taken
+front-alone s kind taken e = whole-is (take taken s) kind taken (whole-alone s kind taken (is-whole s kind taken e))
+
 -- a front of it that is shorter is cut, at the check that needs the first missing byte
 module _ (s u : List ℕ) (kind taken : ℕ) (w : IsWhole s kind taken) (front : (i : ℕ) → i < length u → getD u i 0 ≡ getD s i 0) (short : length u < taken) where
   kind-at : 2 ≤ length u → kindOf u ≡ kind
