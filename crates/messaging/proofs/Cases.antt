@@ -1,29 +1,26 @@
 -- Document 01's "Cases" as writing and reading meet them, and the order of answers on both sides. Assumes nothing.
 use Prim.Native.Nat.{ℕ, _+_, _≤_}
-use mathlib.Core.Path.{_≡_, refl, sym, ap, _∙_}
+use mathlib.Core.Path.{_≡_, refl, ap, _∙_}
 use mathlib.Core.List.{List, [], _∷_, _++_}
 use mathlib.Core.Logic.{_⊎_}
 use native.Mathlib.Omega.{arith}
 use lib.IntN.{pos}
 use lib.ListN.{length, take}
 use Rattle.octets.specs.Numbers.{number, bytesOf}
-use Rattle.answer.specs.Answers.{keyLength, unknownKind, lengthForKind, cutShort, outOfRange}
+use Rattle.answer.specs.Answers.{lengthForKind, cutShort, outOfRange}
 use Rattle.framing.specs.declared.position.Position.{Position}
 use Rattle.framing.specs.Position.{positionOf, positionBytes}
 use Rattle.framing.specs.Kinds as kinds
-use Rattle.framing.specs.Front.{mark, stopOf}
-use Rattle.sealing.specs.Siv.{openAnswer}
-use Rattle.answer.proofs.First.{then-refused, then-passed}
-use borrow.Author.Tests.{ne-eqb}
+use Rattle.framing.specs.Front.{mark}
 use Rattle.framing.proofs.RoundTrip.{position-length}
 use Rattle.framing.proofs.Cases as frames
 use Rattle.messaging.specs.declared.Message.the-variants.{Refused}
-use Rattle.messaging.specs.Parts.{frameOf, adIn, nonceIn, sealedIn}
+use Rattle.messaging.specs.Parts.{frameOf}
 use Rattle.messaging.specs.Message.{contentAnswer}
-use Rattle.messaging.specs.Write.{writeAnswer, writtenOf, writeOut}
-use Rattle.messaging.specs.Read.{readAnswer, readOf, readOut}
+use Rattle.messaging.specs.Write.{writeAnswer}
+use Rattle.messaging.specs.Read.{readOf}
 use Rattle.messaging.proofs.Writing.{frame-length, write-done}
-use Rattle.messaging.proofs.Reading.{stop-answer, stop-read}
+use Rattle.messaging.proofs.Reading.{stop-read}
 use Rattle.messaging.proofs.Trips.{read-again}
 use Rattle.messaging.proofs.NoCutMessage.{written-reads-as-12}
 
@@ -72,39 +69,3 @@ pub too-high-read : (key nonce rest : List ℕ) (room : ℕ) → (length key ≡
     → readOf key (frameOf kinds.position key nonce (atAltitude 1000001) ++ rest) room ≡ Refused outOfRange
 unfolding positionOf positionBytes number bytesOf kinds.isKnown kinds.isAllowed kinds.rowOf kinds.table
 too-high-read key nonce rest room k n h = read-again kinds.position key nonce (atAltitude 1000001) rest room refl refl k n h
-
--- tag first, content second: what opening refuses is the answer, whatever the plaintext would say
-pub tag-first : (key s : List ℕ) (room r : ℕ) → stopOf s ≡ 0 → openAnswer key (nonceIn s) (adIn s) (sealedIn s) room ≡ r → (r ≡ 0 → ⊥) → readAnswer key s room ≡ r
-unfolding readAnswer
-tag-first key s room r front e h = then-passed (stopOf s) _ front ∙ then-refused (openAnswer key (nonceIn s) (adIn s) (sealedIn s) room) _ (λ z. h (sym e ∙ z)) ∙ e
-
--- writing asks the range before the key, and a frame is looked at before the key is
-pub range-before-key : (nonce : List ℕ) → writeAnswer kinds.position [] nonce (atAltitude 1000001) 0 ≡ outOfRange
-range-before-key nonce = too-high-written [] nonce 0
-
-pub front-before-key : readAnswer [] (mark ∷ kinds.text ∷ 177 ∷ 0 ∷ []) 0 ≡ lengthForKind
-front-before-key = stop-answer [] (mark ∷ kinds.text ∷ 177 ∷ 0 ∷ []) lengthForKind (frames.text-177 []) 0
-
--- a refused writing writes nothing and says so; a refused reading writes nothing
-pub refused-writing : (kind : ℕ) (key nonce text out : List ℕ) → (writeAnswer kind key nonce text (length out) ≡ 0 → ⊥)
-    → (writtenOf kind key nonce text (length out) .len ≡ 0) × (writeOut kind key nonce text out ≡ out)
-unfolding writtenOf writeOut
-refused-writing kind key nonce text out h = (rw (ne-eqb (writeAnswer kind key nonce text (length out)) 0 h), rw (ne-eqb (writeAnswer kind key nonce text (length out)) 0 h))
-
-pub refused-reading : (key s out : List ℕ) → (readAnswer key s (length out) ≡ 0 → ⊥) → readOut key s out ≡ out
-unfolding readOut
-refused-reading key s out h = rw (ne-eqb (readAnswer key s (length out)) 0 h)
-
--- writing asks the kind first, then the length: kind 4 is 10, an empty text is 11, under any key and with any room
-pub kind-4 : (key nonce text : List ℕ) (room : ℕ) → writeAnswer 4 key nonce text room ≡ unknownKind
-unfolding writeAnswer kinds.isKnown kinds.isAllowed kinds.rowOf kinds.table
-kind-4 key nonce text room = refl
-
-pub no-text : (key nonce : List ℕ) (room : ℕ) → writeAnswer kinds.text key nonce [] room ≡ lengthForKind
-unfolding writeAnswer kinds.isKnown kinds.isAllowed kinds.rowOf kinds.table
-no-text key nonce room = refl
-
--- then sealing answers, its key before the room: an empty key is 1 even where nothing fits
-pub no-key : (nonce : List ℕ) → writeAnswer kinds.checkIn [] nonce [] 0 ≡ keyLength
-unfolding writeAnswer kinds.isKnown kinds.isAllowed kinds.rowOf kinds.table
-no-key nonce = refl

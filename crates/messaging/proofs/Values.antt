@@ -14,7 +14,9 @@ use Rattle.framing.proofs.Rows.{each-known}
 use Rattle.messaging.specs.declared.Message.{Message}
 use Rattle.messaging.specs.declared.Message.the-variants as message
 use Rattle.messaging.specs.Message.{contentAnswer, messageOf, valuesOf}
-use Rattle.messaging.specs.Read.{orRefused}
+use Rattle.framing.specs.Front.{kindOf, takenOf}
+use Rattle.messaging.specs.Parts.{openedIn}
+use Rattle.messaging.specs.Read.{orRefused, readAnswer, readOf}
 use Rattle.logic.proofs.Tests.{no}
 
 -- a message that is not refused answers 0, and no other does
@@ -50,9 +52,12 @@ module _ (kind : ℕ) (text : List ℕ) (taken : ℕ) where
   pub taken-value : valuesOf (messageOf kind text taken) .taken ≡ taken
   taken-value = said (λ m. valuesOf m .taken ≡ taken) refl refl refl
 
-  -- it is not refused, so that a message, or the number that refuses its content, has that number
+  -- it is not refused, so that a message, or the number that refuses it, has that number
+  refusal-value : (a : ℕ) → valuesOf (orRefused a (messageOf kind text taken)) .answer ≡ a
+  refusal-value a = refused-value a (messageOf kind text taken) (said (λ m. valuesOf m .answer ≡ 0) refl refl refl)
+
   pub content-value : valuesOf (orRefused (contentAnswer kind text) (messageOf kind text taken)) .answer ≡ contentAnswer kind text
-  content-value = refused-value (contentAnswer kind text) (messageOf kind text taken) (said (λ m. valuesOf m .answer ≡ 0) refl refl refl)
+  content-value = refusal-value (contentAnswer kind text)
 
   -- a position is the one that its bytes spell, and a text has their length
   pub spelled : (p : Position) (n : ℕ) → isKnown kind ≡ true → messageOf kind text taken ≡ message.Position p n → (kind ≡ kinds.position) × (positionOf text ≡ p)
@@ -63,3 +68,8 @@ module _ (kind : ℕ) (text : List ℕ) (taken : ℕ) where
 
   pub long : (l n : ℕ) → messageOf kind text taken ≡ message.Text l n → length text ≡ l
   long l n = said (λ m. m ≡ message.Text l n → length text ≡ l) (λ q. no (cc)) (λ q. cc) (λ q. no (cc))
+
+-- the number of what is read is the answer of reading
+pub read-value : (key s : List ℕ) (room : ℕ) → valuesOf (readOf key s room) .answer ≡ readAnswer key s room
+unfolding readOf
+read-value key s room = refusal-value (kindOf s) (openedIn key s) (takenOf s) (readAnswer key s room)
