@@ -1,29 +1,22 @@
--- Cases of joining, proved of the definitions. Assumes nothing.
+-- Joining, in cases (document 01, "Feeding and joining"). Assumes nothing.
 use mathlib.Core.Path.{_≡_, refl}
-use mathlib.Core.List.{[], _∷_}
-use Prim.Native.Nat.{ℕ, _-_, _^_}
+use mathlib.Core.List.{List, [], _∷_, _++_}
+use Prim.Native.Nat.{ℕ, _+_, _*_, _^_}
 use lib.ListN.{replicate}
 use Rattle.octets.specs.Xor.{_⊕_}
-use Rattle.field.specs.Element.{element}
-use Rattle.feeding.specs.declared.ExpandedKey.{ExpandedKey}
+use Rattle.gf2.specs.Polyval.{dot}
+use Rattle.field.specs.declared.field_element.FieldElement.{FieldElement}
+use Rattle.field.specs.Element.{value, element}
+use Rattle.feeding.specs.declared.Power.{Power}
+use Rattle.feeding.specs.declared.Route.{Route}
+use Rattle.feeding.specs.declared.Joined.{Joined}
 use Rattle.feeding.specs.Key.{powersFrom, keyOf}
 use Rattle.feeding.specs.declared.Hash.{Hash}
 use Rattle.feeding.specs.Record.{zeroHash}
 use Rattle.feeding.specs.Times.{times, overDigits, ones, width, dotsOf}
+use Rattle.feeding.specs.Calls.{startOf, wholeOf}
 use Rattle.feeding.specs.Join.{joinOf}
-
--- no block more: nothing is multiplied; the most that a count of 64 bits can take
-pub no-dots : dotsOf 0 ≡ 0
-unfolding dotsOf ones width overDigits
-no-dots = refl
-
-pub two-dots : dotsOf 2 ≡ 2
-unfolding dotsOf ones width overDigits
-two-dots = refl
-
-pub most-dots : dotsOf (2 ^ 64 - 1) ≡ 127
-unfolding dotsOf ones width overDigits
-most-dots = refl
+use Rattle.feeding.specs.Parts.{Parts, Part, Both, message, hashOf}
 
 abbrev keyed : (h count : ℕ) → Hash
 keyed h count = record { key = keyOf h; acc = element 0; pending = replicate 16 0; count = count }
@@ -43,13 +36,46 @@ pub like-keys : joinOf (keyed 1 0) (keyed 1 0) 5 .answer ≡ 0
 unfolding powersFrom
 like-keys = refl
 
--- keys are alike by H alone; the joined record has the first one's stored key, whatever it stores, and nothing pending
-abbrev altered : (d : ℕ) → ExpandedKey
-altered d = record { powers = record { h = element 1; d = element d } ∷ [] }
+-- "Keys are alike when their 16 bytes of H are equal": both words of H count, and nothing else that the keys store
+module _ (d e : FieldElement) (p q r s t u : Power) (a b : FieldElement) where
+  abbrev hashing : (lo hi : ℕ) → FieldElement → Power → Power → Power → (acc : FieldElement) → Hash
+  hashing lo hi d p q r acc =
+      record { key = record { powers = record { h = record { lo = lo; hi = hi }; d = d } ∷ p ∷ q ∷ r ∷ [] }; acc = acc; pending = replicate 16 9; count = 0 }
 
-abbrev storing : (d acc : ℕ) → Hash
-storing d acc = record { key = altered d; acc = element acc; pending = replicate 16 9; count = 0 }
+  pub low-unlike : joinOf (hashing 2 3 d p q r a) (hashing 1 3 d p q r a) 5 ≡ record { answer = 14; hash = zeroHash; dots = 0 }
+  low-unlike = refl
 
-pub first-key : joinOf (storing 5 7) (storing 6 8) 0 ≡ record { answer = 0; hash = record { key = altered 5; acc = element 15; pending = replicate 16 0; count = 0 }; dots = 0 }
-unfolding times dotsOf ones width overDigits _⊕_
-first-key = refl
+  pub high-unlike : joinOf (hashing 2 3 d p q r a) (hashing 2 1 d p q r a) 5 ≡ record { answer = 14; hash = zeroHash; dots = 0 }
+  high-unlike = refl
+
+  -- "the first one's stored key, nothing pending, whose hash is A multiplied by H through dot n times, plus B"
+  abbrev joins : (acc dots : ℕ) → Joined
+  joins acc dots =
+      record {
+        answer = 0;
+        hash =
+            record { key = record { powers = record { h = record { lo = 2; hi = 3 }; d = d } ∷ p ∷ q ∷ r ∷ [] }; acc = element acc; pending = replicate 16 0; count = 0 };
+        dots = dots;
+      }
+
+  abbrev H : ℕ
+  H = 2 + 3 * 2 ^ 64
+
+  pub join-none : joinOf (hashing 2 3 d p q r a) (hashing 2 3 e s t u b) 0 ≡ joins (value a ⊕ value b) 0
+  unfolding times dotsOf ones width overDigits
+  join-none = refl
+
+  pub join-three : joinOf (hashing 2 3 d p q r a) (hashing 2 3 e s t u b) 3 ≡ joins (dot (dot (dot (value a) H) H) H ⊕ value b) 3
+  unfolding times dotsOf ones width overDigits
+  join-three = refl
+
+-- a message in parts: the parts in their order, each fed to a fresh record, the second one's blocks counted
+pub parts-message : (r : Route) (s t u : List ℕ) → message (Both (Part r s) (Both (Part r t) (Part r u))) ≡ s ++ (t ++ u)
+parts-message r s t u = refl
+
+pub part-hash : (key s : List ℕ) (r : Route) → hashOf key (Part r s) ≡ wholeOf r (startOf key .hash) s .hash
+part-hash key s r = refl
+
+pub parts-hash : (key : List ℕ) (r : Route) → hashOf key (Both (Part r (replicate 16 7)) (Part r (replicate 32 8)))
+    ≡ joinOf (wholeOf r (startOf key .hash) (replicate 16 7) .hash) (wholeOf r (startOf key .hash) (replicate 32 8) .hash) 2 .hash
+parts-hash key r = refl

@@ -1,26 +1,59 @@
--- The cases of document 01 for the check and the keys that it accepts. Assumes nothing.
-use mathlib.Core.Path.{_≡_, refl, ap, _∙_}
+-- The expanded key and its check, in cases (document 01, "Feeding and joining" and port order 5). Assumes nothing.
+use mathlib.Core.Path.{_≡_, refl}
 use mathlib.Core.Bool.{true, false}
 use mathlib.Core.List.{[], _∷_}
-use Prim.Native.Nat.{_-_, _^_}
+use Prim.Native.Nat.{ℕ, _+_, _-_, _*_, _^_}
 use lib.Dec.{lit<}
-use lib.ListN.{replicate}
+use lib.ListN.{replicate, set}
 use Rattle.octets.specs.Xor.{_⊕_}
 use Rattle.gf2.specs.Carryless.{clmul, clmulN}
 use Rattle.gf2.specs.Remainder.{remainder, remainderN, timesX}
 use Rattle.gf2.specs.Polyval.{dot, unit, modulus, xInv128}
-use Rattle.gf2.proofs.Dot.{unit-lt}
-use Rattle.rfc8452.specs.Machine.{run}
-use Rattle.rfc8452.proofs.PolyvalCases.{unit-key}
 use Rattle.field.specs.Element.{element}
-use Rattle.field.specs.Rf.{counted, companionOf, total, rPart, fPart, rfReduce, rfGroup}
-use Rattle.field.proofs.Element.{value-element}
+use Rattle.field.specs.Rf.{companionOf}
+use Rattle.feeding.specs.declared.Power.{Power}
 use Rattle.feeding.specs.declared.ExpandedKey.{ExpandedKey}
-use Rattle.feeding.specs.declared.Route.the-variants.{Wide, Rf}
-use Rattle.feeding.specs.Key.{powerCount, powerOf, powersFrom, keyOf, samePowers, checkOf}
-use Rattle.feeding.specs.Formulas.{paired, groupOf, groupsOf, rfRun, alone}
-use Rattle.feeding.specs.Routes.{absorbOn}
+use Rattle.feeding.specs.Key.{powerCount, powerOf, powersFrom, keyOf, expandedOf, powerAt, hOf, sameElement, samePower, samePowers, checkOf}
 use Rattle.feeding.proofs.Check.{made-checks}
+
+-- four powers, by dot: "D = swap(H) + H0·P1" and "powers taken by dot"
+pub four-powers : powerCount ≡ 4
+four-powers = refl
+
+pub key-powers : (h : ℕ) → keyOf h
+    ≡ record { powers = powerOf h ∷ powerOf (dot h h) ∷ powerOf (dot (dot h h) h) ∷ powerOf (dot (dot (dot h h) h) h) ∷ [] }
+unfolding powersFrom
+key-powers h = refl
+
+pub power-words : powerOf (1 + 2 * 2 ^ 64) ≡ record { h = record { lo = 1; hi = 2 }; d = record { lo = 0xc200000000000002; hi = 1 } }
+unfolding companionOf clmul clmulN _⊕_
+power-words = refl
+
+pub expanded-with : (h : ℕ) → expandedOf h ≡ record { key = keyOf h; multiplies = 19 }
+expanded-with h = refl
+
+-- the power at a place, zeros past the last; the H of a key is its first power's
+pub power-places : (p q : Power) → (powerAt (p ∷ q ∷ []) 0 ≡ p) × (powerAt (p ∷ q ∷ []) 1 ≡ q)
+    × (powerAt (p ∷ q ∷ []) 2 ≡ record { h = record { lo = 0; hi = 0 }; d = record { lo = 0; hi = 0 } })
+power-places p q = (refl, refl, refl)
+
+pub first-power : (p q : Power) → hOf (record { powers = p ∷ q ∷ [] }) ≡ p .h
+first-power p q = refl
+
+-- elements are the same by both words
+pub words-compared : (sameElement (record { lo = 1; hi = 2 }) (record { lo = 1; hi = 2 }) ≡ true) × (sameElement (record { lo = 1; hi = 2 }) (record { lo = 3; hi = 2 }) ≡ false)
+    × (sameElement (record { lo = 1; hi = 2 }) (record { lo = 1; hi = 3 }) ≡ false)
+words-compared = (refl, refl, refl)
+
+-- powers by both elements, and lists by every power and by their lengths
+pub elements-compared : (samePower (powerOf 1) (powerOf 1) ≡ true) × (samePower (powerOf 1) (record { h = element 2; d = powerOf 1 .d }) ≡ false)
+    × (samePower (powerOf 1) (record { h = element 1; d = element 2 }) ≡ false)
+unfolding companionOf clmul clmulN _⊕_
+elements-compared = (refl, refl, refl)
+
+pub lengths-compared : (samePowers [] [] ≡ true) × (samePowers [] (powerOf 0 ∷ []) ≡ false) × (samePowers (powerOf 0 ∷ []) [] ≡ false)
+unfolding samePowers
+lengths-compared = (refl, refl, refl)
 
 -- a check stuck at no: the unit's key belongs to it
 pub check-yes : checkOf (keyOf unit) ≡ true
@@ -36,23 +69,21 @@ pub check-no-power : checkOf (record { powers = replicate powerCount (powerOf 1)
 unfolding samePowers powersFrom companionOf dot clmul clmulN remainder remainderN timesX modulus xInv128 _⊕_
 check-no-power = refl
 
+-- the key of zero with another power, and another D value, at each place in turn
+abbrev withPower : (i : ℕ) (p : Power) → ExpandedKey
+withPower i p = record { powers = set (replicate powerCount (powerOf 0)) i p }
+
+pub every-power-counts : (checkOf (withPower 0 (record { h = element 1; d = element 0 })) ≡ false) × (checkOf (withPower 1 (record { h = element 1; d = element 0 })) ≡ false)
+    × (checkOf (withPower 2 (record { h = element 1; d = element 0 })) ≡ false) × (checkOf (withPower 3 (record { h = element 1; d = element 0 })) ≡ false)
+unfolding samePowers powersFrom companionOf dot clmul clmulN remainder remainderN timesX modulus xInv128 _⊕_
+every-power-counts = (refl, refl, refl, refl)
+
+pub every-d-counts : (checkOf (withPower 0 (record { h = element 0; d = element 1 })) ≡ false) × (checkOf (withPower 1 (record { h = element 0; d = element 1 })) ≡ false)
+    × (checkOf (withPower 2 (record { h = element 0; d = element 1 })) ≡ false) × (checkOf (withPower 3 (record { h = element 0; d = element 1 })) ≡ false)
+unfolding samePowers powersFrom companionOf dot clmul clmulN remainder remainderN timesX modulus xInv128 _⊕_
+every-d-counts = (refl, refl, refl, refl)
+
 -- the all-zero record, which a refusal returns, holds the key that belongs to zero
 pub zero-belongs : keyOf 0 ≡ record { powers = replicate powerCount (record { h = element 0; d = element 0 }) }
 unfolding powersFrom companionOf dot clmul clmulN remainder remainderN timesX modulus xInv128 _⊕_
 zero-belongs = refl
-
--- a D value that does not belong: the R/F route takes it as it stands, the other routes read H alone
-abbrev altered : ExpandedKey
-altered = record { powers = record { h = element unit; d = element 0 } ∷ [] }
-
-pub altered-wide : absorbOn Wide alone altered (counted 0 0) (1 ∷ []) ≡ counted 1 0
-altered-wide = (λ i. counted (run (value-element unit unit-lt i) 0 (1 ∷ [])) 0) ∙ ap (λ n. counted n 0) (unit-key 1 (lit< tt))
-
-pub altered-rf : absorbOn Rf alone altered (counted 0 0) (1 ∷ []) ≡ counted 0 5
-unfolding rfRun groupsOf paired rfGroup total rPart fPart rfReduce clmul clmulN unit _⊕_
-altered-rf = refl
-
--- two blocks in one group: the element held joins the first block alone, which meets the second power; the last block meets H
-pub two-blocks : groupOf (record { h = element 0; d = element (2 ^ 64) } ∷ record { h = element 0; d = element 0 } ∷ []) (counted 1 0) (0 ∷ 5 ∷ []) ≡ counted 5 9
-unfolding paired rfGroup total rPart fPart rfReduce clmul clmulN _⊕_
-two-blocks = refl

@@ -7,6 +7,7 @@ pub mod Agree
 pub mod Alone
 pub mod Cost
 pub mod KeyCases
+pub mod GroupCases
 pub mod Message
 pub mod OneHash
 pub mod Start
@@ -15,6 +16,8 @@ pub mod Spent
 pub mod Stale
 pub mod Refused
 pub mod RecordCases
+pub mod FeedCases
 pub mod Dots
+pub mod CostCases
 pub mod Whole
 pub mod JoinCases

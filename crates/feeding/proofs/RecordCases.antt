@@ -1,7 +1,7 @@
 -- The cases of document 01 for the hash record, proved of the definitions. Assumes nothing.
 use mathlib.Core.Path.{_≡_, refl, sym, ap, _∙_, subst}
 use mathlib.Core.Bool.{true, cond, not}
-use mathlib.Core.List.{List, [], _∷_, append-nil}
+use mathlib.Core.List.{List, [], _∷_, _++_, append-nil}
 use Prim.Native.Nat.{ℕ, _%_, _^_, _<_, _≤_}
 use lib.Dec.{lit<, lit≤}
 use lib.ListN.{length, replicate}
@@ -11,8 +11,12 @@ use Rattle.octets.specs.Numbers.{number, bytesOf}
 use Rattle.gf2.specs.Polyval.{unit}
 use Rattle.octets.proofs.Numbers.{bytes-zeros, Bytes, number-lt, bytesOf-number, number-bytesOf, bytesOf-length, bytesOf-bytes}
 use Rattle.gf2.proofs.Dot.{unit-lt}
+use Rattle.field.specs.declared.field_element.FieldElement.{FieldElement}
+use Rattle.field.specs.declared.rf.Counted.{Counted}
 use Rattle.field.specs.Element.{element}
 use Rattle.field.specs.Rf.{counted}
+use Rattle.feeding.specs.declared.Power.{Power}
+use Rattle.feeding.specs.declared.ExpandedKey.{ExpandedKey}
 use Rattle.feeding.specs.declared.Route.{Route}
 use Rattle.feeding.specs.declared.Route.the-variants.{Wide}
 use Rattle.rfc8452.specs.Machine.{run, polyval}
@@ -23,7 +27,7 @@ use Rattle.feeding.proofs.Check.{made-checks}
 use Rattle.rfc8452.proofs.PolyvalCases.{zero-key, unit-key}
 use Rattle.feeding.proofs.KeyCases.{zero-belongs}
 use Rattle.feeding.specs.declared.Hash.{Hash}
-use Rattle.feeding.specs.Record.{zeroHash, holding, fedOr}
+use Rattle.feeding.specs.Record.{filled, pendingOf, heldBy, zeroHash, holding, fedOr}
 use Rattle.feeding.specs.Calls.{absorbed, startOf, wholeOf, paddedOf, pieceOf, finishOf, resetOf}
 use Rattle.feeding.specs.Feeds.{Feed, Whole, Accepted, fedAll, fedString}
 use Rattle.feeding.proofs.Start.{AllBytes, started, from-start}
@@ -37,12 +41,21 @@ pub zero-hash : (fs : List Feed) (route : Route) → AllBytes fs → Accepted (s
 unfolding number bytesOf
 zero-hash fs route b ok = from-start (replicate 16 0) refl (bytes-zeros 16) fs route b ok .1 ∙ ap (bytesOf 16) (zero-key (blocks (fedString fs)))
 
+-- the key is the number of the 16 bytes, and nothing is absorbed or pending
+pub start-made : startOf (1 ∷ 2 ∷ replicate 14 0)
+    ≡ record { answer = 0; hash = record { key = keyOf 0x0201; acc = record { lo = 0; hi = 0 }; pending = replicate 16 0; count = 0 }; multiplies = 19 }
+unfolding number
+start-made = refl
+
 -- a key of 16 bytes alone is taken
 pub fifteen-start : startOf (replicate 15 7) ≡ record { answer = 1; hash = zeroHash; multiplies = 0 }
 fifteen-start = refl
 
 pub seventeen-start : startOf (replicate 17 7) ≡ record { answer = 1; hash = zeroHash; multiplies = 0 }
 seventeen-start = refl
+
+pub fifteen-zeros : startOf (replicate 15 0) .answer ≡ 1
+fifteen-zeros = refl
 
 -- "One constant hash must fail: under the unit key a single block hashes to itself"
 abbrev unitKey : List ℕ
@@ -82,25 +95,39 @@ sixteen-reset = refl
 pub sixteen-piece : pieceOf Wide (claiming 16) [] ≡ record { answer = 14; hash = zeroHash; multiplies = 0 }
 sixteen-piece = refl
 
--- a pending byte stops a padded feed, an empty one too, and comes before the length in a whole-block feed
-pub pending-padded : paddedOf Wide (claiming 1) [] .answer ≡ 14
-pending-padded = refl
-
-pub pending-whole : wholeOf Wide (claiming 1) (7 ∷ []) .answer ≡ 14
-pending-whole = refl
-
-pub short-whole : wholeOf Wide (claiming 0) (replicate 15 7) .answer ≡ 3
-short-whole = refl
-
-pub block-whole : wholeOf Wide (claiming 0) (replicate 16 7) .answer ≡ 0
-block-whole = refl
-
 -- an empty feed adds no block, and clears the stored bytes
 pub empty-feed : paddedOf Wide (claiming 0) [] .hash ≡ record { key = keyOf 1; acc = element 0; pending = replicate 16 0; count = 0 }
 unfolding run blocks blocksN
 empty-feed = refl
 
--- the record that a refusal returns is all zero, and its key passes the check
+-- "Any count, hash, tag, record or position it returns is all zero", written out
+abbrev zero : Power
+zero = record { h = record { lo = 0; hi = 0 }; d = record { lo = 0; hi = 0 } }
+
+pub all-zero : zeroHash
+    ≡ record {
+      key = record { powers = zero ∷ zero ∷ zero ∷ zero ∷ [] };
+      acc = record { lo = 0; hi = 0 };
+      pending = 0 ∷ 0 ∷ 0 ∷ 0 ∷ 0 ∷ 0 ∷ 0 ∷ 0 ∷ 0 ∷ 0 ∷ 0 ∷ 0 ∷ 0 ∷ 0 ∷ 0 ∷ 0 ∷ [];
+      count = 0;
+    }
+all-zero = refl
+
+-- what a record holds after a call: zeros past the bytes kept; what it keeps is found by the count; a call begins with nothing spent
+pub two-kept : (key : ExpandedKey) (made : Counted) → holding key made (5 ∷ 6 ∷ [])
+    ≡ record { answer = 0; hash = record { key = key; acc = made .element; pending = 5 ∷ 6 ∷ replicate 14 0; count = 2 }; multiplies = made .multiplies }
+two-kept key made = refl
+
+pub fill-ends : (filled [] ≡ replicate 16 0) × (filled (replicate 15 7) ≡ replicate 15 7 ++ 0 ∷ []) × (filled (replicate 16 7) ≡ replicate 16 7)
+fill-ends = (refl, refl, refl)
+
+pub two-pending : (key : ExpandedKey) (acc : FieldElement) → pendingOf (record { key = key; acc = acc; pending = 5 ∷ 6 ∷ replicate 14 9; count = 2 }) ≡ 5 ∷ 6 ∷ []
+two-pending key acc = refl
+
+pub held-element : (h : Hash) → heldBy h ≡ record { element = h .acc; multiplies = 0 }
+held-element h = refl
+
+-- the record that a refusal returns has the key of H = 0, and its key passes the check
 pub zero-record : zeroHash ≡ record { key = keyOf 0; acc = record { lo = 0; hi = 0 }; pending = replicate 16 0; count = 0 }
 zero-record = λ i. record { key = sym zero-belongs i; acc = element 0; pending = replicate 16 0; count = 0 }
 
