@@ -16,7 +16,7 @@ use Rattle.feeding.specs.declared.Finished.{Finished}
 use Rattle.feeding.specs.Formulas.{inGroups, alone}
 use Rattle.feeding.specs.Routes.{absorbOn}
 use Rattle.feeding.specs.Record.{zeroHash}
-use Rattle.feeding.specs.Feeds.{Feed, Whole, Padded, Piece, feedBy, Accepted, fedAll, toBlocks, fedString}
+use Rattle.feeding.specs.Feeds.{Feed, Whole, Padded, Piece, feedBy, Accepted, fedAll, toBlocks, standsFor, fedString}
 use Rattle.feeding.specs.Calls.{wholeOf, paddedOf, pieced, pieceOf, finishOf, resetOf}
 
 -- fifteen bytes, and their number; the sixteenth byte 16 makes `full` of it
@@ -168,5 +168,8 @@ pub filled-up : (toBlocks [] ≡ []) × (toBlocks (1 ∷ []) ≡ 1 ∷ replicate
     × (toBlocks (fifteen ++ 16 ∷ []) ≡ fifteen ++ 16 ∷ []) × (toBlocks (fifteen ++ 16 ∷ 17 ∷ []) ≡ fifteen ++ 16 ∷ 17 ∷ replicate 15 0)
 filled-up = (refl, refl, refl, refl, refl)
 
-pub spelled : (r : Route) → fedString (Piece r (3 ∷ []) ∷ Padded r (1 ∷ []) ∷ Whole r fifteen ∷ []) ≡ 3 ∷ 1 ∷ replicate 15 0 ++ fifteen
-spelled r = refl
+pub stood-for : (r : Route) (s : List ℕ) → (standsFor (Whole r s) ≡ s) × (standsFor (Padded r s) ≡ toBlocks s) × (standsFor (Piece r s) ≡ s)
+stood-for r s = (refl, refl, refl)
+
+pub spelled-in-order : (f g : Feed) → (fedString [] ≡ []) × (fedString (f ∷ g ∷ []) ≡ standsFor f ++ (standsFor g ++ []))
+spelled-in-order f g = (refl, refl)

@@ -28,7 +28,7 @@ use Rattle.rfc8452.proofs.PolyvalCases.{zero-key, unit-key}
 use Rattle.feeding.proofs.KeyCases.{zero-belongs}
 use Rattle.feeding.specs.declared.Hash.{Hash}
 use Rattle.feeding.specs.Record.{filled, pendingOf, heldBy, zeroHash, holding, fedOr}
-use Rattle.feeding.specs.Calls.{absorbed, startOf, wholeOf, paddedOf, pieceOf, finishOf, resetOf}
+use Rattle.feeding.specs.Calls.{absorbed, startOf, wholeOf, paddedOf, pieceOf, tagged, finishOf, resetOf}
 use Rattle.feeding.specs.Feeds.{Feed, Whole, Accepted, fedAll, fedString}
 use Rattle.feeding.proofs.Start.{AllBytes, started, from-start}
 
@@ -126,6 +126,11 @@ two-pending key acc = refl
 
 pub held-element : (h : Hash) → heldBy h ≡ record { element = h .acc; multiplies = 0 }
 held-element h = refl
+
+-- the tag is the element's sixteen bytes, bit 0 of byte 0 the coefficient of 1
+pub tag-bytes : tagged (counted 0x0201 7) ≡ record { answer = 0; tag = 1 ∷ 2 ∷ replicate 14 0; multiplies = 7 }
+unfolding bytesOf
+tag-bytes = refl
 
 -- the record that a refusal returns has the key of H = 0, and its key passes the check
 pub zero-record : zeroHash ≡ record { key = keyOf 0; acc = record { lo = 0; hi = 0 }; pending = replicate 16 0; count = 0 }
