@@ -96,10 +96,12 @@ pub altered-group : absorbOn Rf inGroups altered (counted 2 7) (1 ∷ 4 ∷ 8 �
 unfolding rfRun groupsOf paired rfGroup total rPart fPart rfReduce clmul clmulN unit _⊕_
 altered-group = refl
 
-pub altered-wide : absorbOn Wide inGroups altered (counted 2 7) (1 ∷ []) ≡ counted 3 7
+pub altered-wide : (absorbOn Wide inGroups altered (counted 2 7) (1 ∷ []) ≡ counted 3 7)
+    × (absorbOn Wide inGroups altered (counted 2 7) (1 ∷ 4 ∷ 8 ∷ 16 ∷ []) ≡ counted 31 7)
 unfolding run step dot clmul clmulN remainder remainderN timesX modulus xInv128 unit _⊕_
-altered-wide = refl
+altered-wide = (refl, refl)
 
-pub altered-narrow : absorbOn Narrow inGroups altered (counted 2 7) (1 ∷ []) ≡ counted 3 7
+pub altered-narrow : (absorbOn Narrow inGroups altered (counted 2 7) (1 ∷ []) ≡ counted 3 7)
+    × (absorbOn Narrow inGroups altered (counted 2 7) (1 ∷ 4 ∷ 8 ∷ 16 ∷ []) ≡ counted 31 7)
 unfolding run step dot clmul clmulN remainder remainderN timesX modulus xInv128 unit _⊕_
-altered-narrow = refl
+altered-narrow = (refl, refl)
