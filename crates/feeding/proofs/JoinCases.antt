@@ -8,6 +8,7 @@ use Rattle.gf2.specs.Polyval.{dot}
 use Rattle.field.specs.declared.field_element.FieldElement.{FieldElement}
 use Rattle.field.specs.Element.{value, element}
 use Rattle.feeding.specs.declared.Power.{Power}
+use Rattle.feeding.specs.declared.ExpandedKey.{ExpandedKey}
 use Rattle.feeding.specs.declared.Route.{Route}
 use Rattle.feeding.specs.declared.Joined.{Joined}
 use Rattle.feeding.specs.Key.{powersFrom, keyOf}
@@ -36,36 +37,33 @@ pub like-keys : joinOf (keyed 1 0) (keyed 1 0) 5 .answer ≡ 0
 unfolding powersFrom
 like-keys = refl
 
--- "Keys are alike when their 16 bytes of H are equal": both words of H count, and nothing else that the keys store
-module _ (d e : FieldElement) (p q r s t u : Power) (a b : FieldElement) where
-  abbrev hashing : (lo hi : ℕ) → FieldElement → Power → Power → Power → (acc : FieldElement) → Hash
-  hashing lo hi d p q r acc =
-      record { key = record { powers = record { h = record { lo = lo; hi = hi }; d = d } ∷ p ∷ q ∷ r ∷ [] }; acc = acc; pending = replicate 16 9; count = 0 }
+-- a key whose first power has these words, whatever else it stores; a record under it, with stale bytes
+abbrev keyWith : (lo hi : ℕ) (d : FieldElement) (p q r : Power) → ExpandedKey
+keyWith lo hi d p q r = record { powers = record { h = record { lo = lo; hi = hi }; d = d } ∷ p ∷ q ∷ r ∷ [] }
 
-  pub low-unlike : joinOf (hashing 2 3 d p q r a) (hashing 1 3 d p q r a) 5 ≡ record { answer = 14; hash = zeroHash; dots = 0 }
+abbrev hashing : ExpandedKey → (acc : FieldElement) → Hash
+hashing key acc = record { key = key; acc = acc; pending = replicate 16 9; count = 0 }
+
+module _ (d e : FieldElement) (p q r s t u : Power) (a b : FieldElement) where
+  -- "Keys are alike when their 16 bytes of H are equal": both words of H count, and nothing else that the keys store
+  pub low-unlike : joinOf (hashing (keyWith 2 3 d p q r) a) (hashing (keyWith 1 3 d p q r) b) 5 ≡ record { answer = 14; hash = zeroHash; dots = 0 }
   low-unlike = refl
 
-  pub high-unlike : joinOf (hashing 2 3 d p q r a) (hashing 2 1 d p q r a) 5 ≡ record { answer = 14; hash = zeroHash; dots = 0 }
+  pub high-unlike : joinOf (hashing (keyWith 2 3 d p q r) a) (hashing (keyWith 2 1 d p q r) b) 5 ≡ record { answer = 14; hash = zeroHash; dots = 0 }
   high-unlike = refl
 
   -- "the first one's stored key, nothing pending, whose hash is A multiplied by H through dot n times, plus B"
   abbrev joins : (acc dots : ℕ) → Joined
-  joins acc dots =
-      record {
-        answer = 0;
-        hash =
-            record { key = record { powers = record { h = record { lo = 2; hi = 3 }; d = d } ∷ p ∷ q ∷ r ∷ [] }; acc = element acc; pending = replicate 16 0; count = 0 };
-        dots = dots;
-      }
+  joins acc dots = record { answer = 0; hash = record { key = keyWith 2 3 d p q r; acc = element acc; pending = replicate 16 0; count = 0 }; dots = dots }
 
   abbrev H : ℕ
   H = 2 + 3 * 2 ^ 64
 
-  pub join-none : joinOf (hashing 2 3 d p q r a) (hashing 2 3 e s t u b) 0 ≡ joins (value a ⊕ value b) 0
+  pub join-none : joinOf (hashing (keyWith 2 3 d p q r) a) (hashing (keyWith 2 3 e s t u) b) 0 ≡ joins (value a ⊕ value b) 0
   unfolding times dotsOf ones width overDigits
   join-none = refl
 
-  pub join-three : joinOf (hashing 2 3 d p q r a) (hashing 2 3 e s t u b) 3 ≡ joins (dot (dot (dot (value a) H) H) H ⊕ value b) 3
+  pub join-three : joinOf (hashing (keyWith 2 3 d p q r) a) (hashing (keyWith 2 3 e s t u) b) 3 ≡ joins (dot (dot (dot (value a) H) H) H ⊕ value b) 3
   unfolding times dotsOf ones width overDigits
   join-three = refl
 
