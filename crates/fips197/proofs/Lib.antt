@@ -1,6 +1,6 @@
--- The definitions' examples and laws.
+-- The definitions' laws, and the steps that FIPS 197 prints.
 pub mod Table
 pub mod Length
 pub mod Field
 pub mod Sbox
-mod Examples
+pub mod Cases

@@ -1,9 +1,12 @@
--- The S-box gives bytes. Assumes nothing.
+-- The S-box gives bytes, and its table has each. Assumes nothing.
+use mathlib.Core.Path.{_≡_}
 use Prim.Native.Nat.{ℕ, zero, suc, _+_, _*_, _^_, _<_}
 use native.Mathlib.Nat.{pow-suc, mod-lt, zero-lt-suc}
 use native.Mathlib.Omega.{arith}
+use lib.ListN.{length, getD}
 use Rattle.fips197.specs.Field.{inverse}
-use Rattle.fips197.specs.Sbox.{bits, affineBit, affine, sbox}
+use Rattle.fips197.specs.Sbox.{bits, affineBit, affine, sbox, sboxTable}
+use Rattle.fips197.proofs.Table.{tab-length, tab-getD}
 
 bits-lt : (n : ℕ) (f : ℕ → ℕ) → ((i : ℕ) → f i < 2) → bits n f < 2 ^ n
 bits-lt zero f h = zero-lt-suc 0
@@ -22,3 +25,12 @@ bits-lt (suc n) f h =
 pub sbox-lt : (x : ℕ) → sbox x < 256
 unfolding sbox affine
 sbox-lt x = bits-lt 8 (affineBit (inverse x)) (λ i. mod-lt _ (zero-lt-suc 1))
+
+-- the table has an entry for every byte, its S-box value
+pub sbox-table-length : length sboxTable ≡ 256
+unfolding sboxTable
+sbox-table-length = tab-length 256 sbox
+
+pub sbox-table-at : (x : ℕ) → x < 256 → getD sboxTable x 0 ≡ sbox x
+unfolding sboxTable
+sbox-table-at x h = tab-getD 256 sbox x h

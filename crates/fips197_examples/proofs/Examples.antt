@@ -1,25 +1,15 @@
--- The definitions at FIPS 197's examples: antt computes each. Assumes nothing.
+-- Whole blocks at FIPS 197's examples: antt computes each from the definitions. Assumes nothing.
 use mathlib.Core.Path.{_≡_, refl}
 use mathlib.Core.List.{List, [], _∷_}
 use Prim.Native.Nat.{ℕ}
 use Rattle.octets.specs.Xor.{_⊕_}
 use Rattle.gf2.specs.Carryless.{clmulN, clmul}
 use Rattle.gf2.specs.Remainder.{timesX, remainderN, remainder}
 use Rattle.fips197.specs.Field.{gmul, powers, inverse}
 use Rattle.fips197.specs.Sbox.{affine, sbox}
 use Rattle.fips197.specs.Cipher.{subBytes, shiftRows, mix, mixColumns, addRoundKey, rounds, cipher}
 use Rattle.fips197.specs.KeyExpansion.{sum, power, temp, expand, keyExpansion}
 use Rattle.fips197.specs.Aes.{aes}
-
--- section 4.2
-product : gmul 0x57 0x83 ≡ 0xc1
-unfolding gmul remainder remainderN timesX clmul clmulN _⊕_
-product = refl
-
--- section 5.1.1
-box : sbox 0x53 ≡ 0xed
-unfolding sbox affine inverse powers gmul remainder remainderN timesX clmul clmulN _⊕_
-box = refl
 
 key16 : List ℕ
 key16 = 0x00 ∷ 0x01 ∷ 0x02 ∷ 0x03 ∷ 0x04 ∷ 0x05 ∷ 0x06 ∷ 0x07 ∷ 0x08 ∷ 0x09 ∷ 0x0a ∷ 0x0b ∷ 0x0c ∷ 0x0d ∷ 0x0e ∷ 0x0f ∷ []

@@ -1,0 +1,2 @@
+-- FIPS 197's whole blocks, computed.
+mod Examples
