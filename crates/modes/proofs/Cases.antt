@@ -7,7 +7,7 @@ use lib.ListN.{getD, replicate}
 use Rattle.octets.specs.Xor.{_⊕_}
 use Rattle.octets.specs.Strings.{xorBytes, sameBytes}
 use Rattle.modes.specs.Stream.{stream, masked}
-use Rattle.modes.specs.Mode.{sealedBy, openedBy, authenticBy}
+use Rattle.modes.specs.Mode.{sealedBy, bodyOf, tagOf, openedBy, authenticBy}
 
 -- a counter of one byte, and sixteen copies of it for its block
 abbrev next : List ℕ → List ℕ
@@ -31,6 +31,22 @@ nines text = replicate 16 9
 pub text-then-tag : sealedBy mask nines (1 ∷ 2 ∷ []) ≡ 1 ∷ 2 ∷ replicate 16 9
 unfolding sealedBy
 text-then-tag = refl
+
+-- the last sixteen bytes are the tag
+pub body-and-tag : (bodyOf (1 ∷ 2 ∷ replicate 16 9) ≡ 1 ∷ 2 ∷ []) × (tagOf (1 ∷ 2 ∷ replicate 16 9) ≡ replicate 16 9)
+body-and-tag = (refl, refl)
+
+-- the text is masked under the tag, and unmasked under the one that came: here a mask shows both
+abbrev shown : List ℕ → List ℕ → List ℕ
+shown tag text = tag ++ text
+
+pub masked-under-tag : sealedBy shown nines (1 ∷ 2 ∷ []) ≡ replicate 16 9 ++ (1 ∷ 2 ∷ replicate 16 9)
+unfolding sealedBy
+masked-under-tag = refl
+
+pub opened-under-tag : openedBy shown (1 ∷ 2 ∷ replicate 16 9) ≡ replicate 16 9 ++ (1 ∷ 2 ∷ [])
+unfolding openedBy
+opened-under-tag = refl
 
 -- and another tag is not authentic, in its last byte alone
 pub right-tag : authenticBy mask nines (1 ∷ 2 ∷ replicate 16 9) ≡ true

@@ -9,3 +9,4 @@ pub mod Copies
 pub mod Same
 pub mod Places
 pub mod Unique
+pub mod Cases

@@ -2,6 +2,7 @@
 -- Assumes nothing.
 use Prim.Native.Nat.{ℕ, _+_}
 use mathlib.Core.Path.{_≡_, ap, _∙_}
+use mathlib.Core.Bool.{true}
 use mathlib.Core.List.{List}
 use lib.ListN.{length}
 use Rattle.octets.specs.Numbers.{number}
@@ -36,6 +37,16 @@ module _ (key nonce : List ℕ) where
   pub opened-length : (s : List ℕ) → length (opened key nonce s) ≡ length (bodyOf s)
   unfolding openedBy
   opened-length s = mask-keeps (tagOf s) (bodyOf s)
+
+  -- what was sealed opens, and what opens was sealed
+  pub sealed-opens : (ad text : List ℕ) → (opened key nonce (sealed key nonce ad text) ≡ text) × (authentic key nonce ad (sealed key nonce ad text) ≡ true)
+  sealed-opens ad text = (
+    modes.opened-sealed (mask key nonce) (tag key nonce ad) mask-keeps mask-undoes (tag-sixteen ad) text,
+    modes.authentic-sealed (mask key nonce) (tag key nonce ad) mask-keeps mask-undoes (tag-sixteen ad) text,
+  )
+
+  pub opened-was-sealed : (ad s : List ℕ) → authentic key nonce ad s ≡ true → sealed key nonce ad (opened key nonce s) ≡ s
+  opened-was-sealed ad s = modes.sealed-opened (mask key nonce) (tag key nonce ad) mask-keeps mask-undoes (tag-sixteen ad) s
 
   -- under keys that are held otherwise but are the same
   module _ (h : ℕ) (f : List ℕ → List ℕ) (eh : h ≡ number (hashKey key nonce)) (ef : f ≡ aes (cipherKey key nonce)) where

@@ -1,4 +1,4 @@
--- The counter blocks, RFC 8452 section 4, "AES_CTR". Assumes nothing.
+-- The counter blocks, RFC 8452 section 4, AES_CTR. Assumes nothing.
 use Prim.Native.Nat.{ℕ, _+_, _%_, _^_}
 use mathlib.Core.List.{List, _++_}
 use lib.Bits.{bitOr}
@@ -6,7 +6,7 @@ use lib.ListN.{getD, set, take, drop}
 use Rattle.octets.specs.Numbers.{number, bytesOf}
 use Rattle.modes.specs.Stream.{masked}
 
--- the first: "counter_block = tag; counter_block[15] |= 0x80"
+-- the first: the tag, with the top bit of its last byte set
 unfoldable pub counterBlock : (tag : List ℕ) → List ℕ
 counterBlock tag = set tag 15 (bitOr (getD tag 15 0) 0x80)
 

@@ -1,4 +1,4 @@
--- The keys of one message, RFC 8452 section 4, "derive_keys". Assumes nothing.
+-- The keys of one message, RFC 8452 section 4, derive_keys. Assumes nothing.
 use Prim.Native.Nat.{ℕ}
 use mathlib.Core.Bool.{cond}
 use mathlib.Core.List.{List, _++_}
@@ -7,7 +7,7 @@ use lib.ListN.{length, take}
 use Rattle.octets.specs.Numbers.{bytesOf}
 use Rattle.fips197.specs.Aes.{aes}
 
--- "AES(key = key_generating_key, block = little_endian_uint32(i) ++ nonce)[:8]"
+-- the first 8 bytes of the encrypted block of i, 32 bits little-endian, and the nonce
 abbrev pub derivedBy : (cipher : List ℕ → List ℕ) (nonce : List ℕ) (i : ℕ) → List ℕ
 derivedBy cipher nonce i = take 8 (cipher (bytesOf 4 i ++ nonce))
 

@@ -16,11 +16,11 @@ mask key nonce tag text = maskUnder (aes (cipherKey key nonce)) tag text
 unfoldable pub tag : (key nonce ad text : List ℕ) → List ℕ
 tag key nonce ad text = tagUnder (number (hashKey key nonce)) (aes (cipherKey key nonce)) nonce ad text
 
--- section 4: "return AES_CTR(..) ++ tag"
+-- section 4: the masked text, then the tag
 abbrev pub sealed : (key nonce ad text : List ℕ) → List ℕ
 sealed key nonce ad text = sealedBy (mask key nonce) (tag key nonce ad) text
 
--- section 5: the text that a sealed part claims, and whether "constant_time_compare(expected_tag, tag)" holds
+-- section 5: the text that a sealed part claims, and whether the tag that it should have is the tag that came
 abbrev pub opened : (key nonce s : List ℕ) → List ℕ
 opened key nonce s = openedBy (mask key nonce) s
 

@@ -1,11 +1,26 @@
--- RFC 8452's examples of GHASH, computed by SP 800-38D's algorithms. Assumes nothing.
-use mathlib.Core.Path.{_≡_}
-use mathlib.Core.List.{List, [], _∷_, reverse}
-use Prim.Native.Nat.{ℕ}
+-- RFC 8452's examples of GHASH, computed by SP 800-38D's algorithms, and how bytes become blocks. Assumes nothing.
+use mathlib.Core.Path.{_≡_, refl}
+use mathlib.Core.List.{List, [], _∷_, _++_, reverse}
+use Prim.Native.Nat.{ℕ, _^_}
 use lib.Dec.{eqb→eq}
+use lib.ListN.{replicate}
 use Rattle.octets.specs.Xor.{_⊕_}
 use Rattle.octets.specs.Numbers.{number, bytesOf}
-use Rattle.sp800_38d.specs.Ghash.{R, shifted, productN, _•_, ghashFrom, ghashOf}
+use Rattle.sp800_38d.specs.Ghash.{R, shifted, productN, _•_, ghashFrom, ghashOf, bitString, bitBlocksN, bitBlocks}
+
+-- the first byte is the leftmost
+pub leftmost-first : bitString (0x01 ∷ 0x02 ∷ []) ≡ 0x0102
+unfolding number
+leftmost-first = refl
+
+-- a short last block is filled on its right, and an empty string has none
+pub filled-on-the-right : bitBlocks (replicate 16 0 ++ (0x80 ∷ [])) ≡ 0 ∷ 2 ^ 127 ∷ []
+unfolding bitBlocks bitBlocksN number
+filled-on-the-right = refl
+
+pub no-block : bitBlocks [] ≡ []
+unfolding bitBlocks bitBlocksN
+no-block = refl
 
 -- sixteen bytes as the RFC prints them
 abbrev printed : ℕ → List ℕ

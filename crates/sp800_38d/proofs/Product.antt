@@ -84,7 +84,7 @@ productN-lt zero x z v lz lv = lz
 productN-lt (suc n) x z v lz lv =
     productN-lt n x ((x / 2 ^ n % 2 * v) ⊕ z) (shifted v) (⊕-lt 128 (x / 2 ^ n % 2 * v) z (digit-lt (x / 2 ^ n) 128 v lv) lz) (shifted-lt v lv)
 
--- "X • Y" is dot(X, mulX(Y))
+-- X • Y is dot(X, mulX(Y))
 pub product-is : (x y : ℕ) → x < 2 ^ 128 → y < 2 ^ 128 → x • y ≡ dot x (mulx y)
 unfolding _•_
 product-is x y lx ly =

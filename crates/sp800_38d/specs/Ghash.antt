@@ -5,7 +5,7 @@ use lib.ListN.{length, take, drop, replicate}
 use Rattle.octets.specs.Xor.{_⊕_}
 use Rattle.octets.specs.Numbers.{number}
 
--- section 6.3: "Let R be the bit string 11100001 || 0^120"
+-- section 6.3: R is 11100001 and 120 zeros
 unfoldable pub R : ℕ
 R = 0xe1 * 2 ^ 120
 
