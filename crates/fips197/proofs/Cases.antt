@@ -17,7 +17,7 @@ use Rattle.fips197.specs.KeyExpansion.{word, sum, rotWord, subWord, powe
 use Rattle.fips197.specs.Aes.{aes}
 
 -- n bytes as the document prints them
-abbrev hex : (n bytes : ℕ) → List ℕ
+abbrev pub hex : (n bytes : ℕ) → List ℕ
 hex n bytes = reverse (bytesOf n bytes)
 
 -- 4.2: {57} times {83}

@@ -1,8 +1,7 @@
 -- Whole blocks at FIPS 197's examples: antt computes each from the definitions. Assumes nothing.
 use mathlib.Core.Path.{_≡_, refl}
-use mathlib.Core.List.{List, [], _∷_}
-use Prim.Native.Nat.{ℕ}
 use Rattle.octets.specs.Xor.{_⊕_}
+use Rattle.octets.specs.Numbers.{bytesOf}
 use Rattle.gf2.specs.Carryless.{clmulN, clmul}
 use Rattle.gf2.specs.Remainder.{timesX, remainderN, remainder}
 use Rattle.fips197.specs.Field.{gmul, powers, inverse}
@@ -10,31 +9,20 @@ use Rattle.fips197.specs.Sbox.{affine, sbox}
 use Rattle.fips197.specs.Cipher.{subBytes, shiftRows, mix, mixColumns, addRoundKey, rounds, cipher}
 use Rattle.fips197.specs.KeyExpansion.{sum, power, temp, expand, keyExpansion}
 use Rattle.fips197.specs.Aes.{aes}
-
-key16 : List ℕ
-key16 = 0x00 ∷ 0x01 ∷ 0x02 ∷ 0x03 ∷ 0x04 ∷ 0x05 ∷ 0x06 ∷ 0x07 ∷ 0x08 ∷ 0x09 ∷ 0x0a ∷ 0x0b ∷ 0x0c ∷ 0x0d ∷ 0x0e ∷ 0x0f ∷ []
-
-key32 : List ℕ
-key32 =
-    0x00 ∷ 0x01 ∷ 0x02 ∷ 0x03 ∷ 0x04 ∷ 0x05 ∷ 0x06 ∷ 0x07 ∷ 0x08 ∷ 0x09 ∷ 0x0a ∷ 0x0b ∷ 0x0c ∷ 0x0d ∷ 0x0e ∷ 0x0f
-    ∷ 0x10 ∷ 0x11 ∷ 0x12 ∷ 0x13 ∷ 0x14 ∷ 0x15 ∷ 0x16 ∷ 0x17 ∷ 0x18 ∷ 0x19 ∷ 0x1a ∷ 0x1b ∷ 0x1c ∷ 0x1d ∷ 0x1e ∷ 0x1f ∷ []
-
-plain : List ℕ
-plain = 0x00 ∷ 0x11 ∷ 0x22 ∷ 0x33 ∷ 0x44 ∷ 0x55 ∷ 0x66 ∷ 0x77 ∷ 0x88 ∷ 0x99 ∷ 0xaa ∷ 0xbb ∷ 0xcc ∷ 0xdd ∷ 0xee ∷ 0xff ∷ []
+use Rattle.fips197.proofs.Cases.{hex}
 
 -- appendix B
-b : aes (0x2b ∷ 0x7e ∷ 0x15 ∷ 0x16 ∷ 0x28 ∷ 0xae ∷ 0xd2 ∷ 0xa6 ∷ 0xab ∷ 0xf7 ∷ 0x15 ∷ 0x88 ∷ 0x09 ∷ 0xcf ∷ 0x4f ∷ 0x3c ∷ [])
-    (0x32 ∷ 0x43 ∷ 0xf6 ∷ 0xa8 ∷ 0x88 ∷ 0x5a ∷ 0x30 ∷ 0x8d ∷ 0x31 ∷ 0x31 ∷ 0x98 ∷ 0xa2 ∷ 0xe0 ∷ 0x37 ∷ 0x07 ∷ 0x34 ∷ [])
-    ≡ 0x39 ∷ 0x25 ∷ 0x84 ∷ 0x1d ∷ 0x02 ∷ 0xdc ∷ 0x09 ∷ 0xfb ∷ 0xdc ∷ 0x11 ∷ 0x85 ∷ 0x97 ∷ 0x19 ∷ 0x6a ∷ 0x0b ∷ 0x32 ∷ []
-unfolding aes cipher rounds addRoundKey mixColumns mix shiftRows subBytes keyExpansion expand temp power sum sbox affine inverse powers gmul remainder remainderN timesX clmul clmulN _⊕_
+b : aes (hex 16 0x2b7e151628aed2a6abf7158809cf4f3c) (hex 16 0x3243f6a8885a308d313198a2e0370734) ≡ hex 16 0x3925841d02dc09fbdc118597196a0b32
+unfolding bytesOf aes cipher rounds addRoundKey mixColumns mix shiftRows subBytes keyExpansion expand temp power sum sbox affine inverse powers gmul remainder remainderN timesX clmul clmulN _⊕_
 b = refl
 
 -- appendix C.1
-c1 : aes key16 plain ≡ 0x69 ∷ 0xc4 ∷ 0xe0 ∷ 0xd8 ∷ 0x6a ∷ 0x7b ∷ 0x04 ∷ 0x30 ∷ 0xd8 ∷ 0xcd ∷ 0xb7 ∷ 0x80 ∷ 0x70 ∷ 0xb4 ∷ 0xc5 ∷ 0x5a ∷ []
-unfolding key16 plain aes cipher rounds addRoundKey mixColumns mix shiftRows subBytes keyExpansion expand temp power sum sbox affine inverse powers gmul remainder remainderN timesX clmul clmulN _⊕_
+c1 : aes (hex 16 0x000102030405060708090a0b0c0d0e0f) (hex 16 0x00112233445566778899aabbccddeeff) ≡ hex 16 0x69c4e0d86a7b0430d8cdb78070b4c55a
+unfolding bytesOf aes cipher rounds addRoundKey mixColumns mix shiftRows subBytes keyExpansion expand temp power sum sbox affine inverse powers gmul remainder remainderN timesX clmul clmulN _⊕_
 c1 = refl
 
 -- appendix C.3
-c3 : aes key32 plain ≡ 0x8e ∷ 0xa2 ∷ 0xb7 ∷ 0xca ∷ 0x51 ∷ 0x67 ∷ 0x45 ∷ 0xbf ∷ 0xea ∷ 0xfc ∷ 0x49 ∷ 0x90 ∷ 0x4b ∷ 0x49 ∷ 0x60 ∷ 0x89 ∷ []
-unfolding key32 plain aes cipher rounds addRoundKey mixColumns mix shiftRows subBytes keyExpansion expand temp power sum sbox affine inverse powers gmul remainder remainderN timesX clmul clmulN _⊕_
+c3 : aes (hex 32 0x000102030405060708090a0b0c0d0e0f101112131415161718191a1b1c1d1e1f) (hex 16 0x00112233445566778899aabbccddeeff)
+    ≡ hex 16 0x8ea2b7ca516745bfeafc49904b496089
+unfolding bytesOf aes cipher rounds addRoundKey mixColumns mix shiftRows subBytes keyExpansion expand temp power sum sbox affine inverse powers gmul remainder remainderN timesX clmul clmulN _⊕_
 c3 = refl

@@ -1,7 +1,7 @@
 -- The definitions of RFC 8452 computed on small cases, so that each of their numbers is held to something outside them: the counter, the bits
 -- that are set and cleared, the paddings, the length block, the key of appendix A. The worked example, which takes AES, is in rfc8452_examples.
 -- Assumes nothing.
-use Prim.Native.Nat.{ℕ, _+_, _-_, _*_, _%_, _^_}
+use Prim.Native.Nat.{ℕ, _+_, _*_, _%_, _^_}
 use mathlib.Core.Path.{_≡_, refl, ap}
 use mathlib.Core.Bool.{cond}
 use mathlib.Core.List.{List, [], _∷_, _++_, reverse, append-nil}
@@ -43,7 +43,7 @@ unfolding nextCounter bytesOf
 others-stay block = drop-at (bytesOf 4 ((number (take 4 block) + 1) % 2 ^ 32)) (drop 4 block) 4 refl
 
 -- the first counter block of a tag whose top bit is clear has it set
-pub top-bit-set : counterBlock (replicate 16 0x0f) ≡ 0x0f ∷ 0x0f ∷ 0x0f ∷ 0x0f ∷ 0x0f ∷ 0x0f ∷ 0x0f ∷ 0x0f ∷ 0x0f ∷ 0x0f ∷ 0x0f ∷ 0x0f ∷ 0x0f ∷ 0x0f ∷ 0x0f ∷ 0x8f ∷ []
+pub top-bit-set : counterBlock (replicate 14 0x0d ++ (0x0e ∷ 0x0f ∷ [])) ≡ replicate 14 0x0d ++ (0x0e ∷ 0x8f ∷ [])
 unfolding counterBlock
 top-bit-set = refl
 
@@ -53,7 +53,7 @@ unfolding counterBlock
 top-bit-kept = refl
 
 -- the key stream begins at that block and goes on with the next one, here with a block cipher that changes nothing
-pub counted-from-tag : maskUnder (λ b. b) (255 ∷ replicate 15 0) (replicate 18 0) ≡ 255 ∷ (replicate 14 0 ++ (0x80 ∷ 0 ∷ 1 ∷ []))
+pub counted-from-tag : maskUnder (λ s. s) (255 ∷ replicate 15 0) (replicate 18 0) ≡ 255 ∷ (replicate 14 0 ++ (0x80 ∷ 0 ∷ 1 ∷ []))
 unfolding masked stream counterBlock nextCounter xorBytes number bytesOf _⊕_
 counted-from-tag = refl
 
@@ -62,9 +62,8 @@ pub nonce-in-front : tagBlock (1 ∷ 2 ∷ 3 ∷ 4 ∷ 5 ∷ 6 ∷ 7 ∷ 8 ∷ 9
 unfolding tagBlock xorBytes bytesOf _⊕_
 nonce-in-front = refl
 
--- the nonce goes to the first twelve bytes of the hash, and the top bit of its last byte is cleared
-pub top-bit-cleared : tagBlock (replicate 12 0x01) (2 ^ 128 - 1)
-    ≡ 0xfe ∷ 0xfe ∷ 0xfe ∷ 0xfe ∷ 0xfe ∷ 0xfe ∷ 0xfe ∷ 0xfe ∷ 0xfe ∷ 0xfe ∷ 0xfe ∷ 0xfe ∷ 0xff ∷ 0xff ∷ 0xff ∷ 0x7f ∷ []
+-- and the top bit of the last byte is cleared
+pub top-bit-cleared : tagBlock (replicate 12 0x01) 0xfffeffffffffffffffffffffffffffff ≡ replicate 12 0xfe ++ (0xff ∷ 0xff ∷ 0xfe ∷ 0x7f ∷ [])
 unfolding tagBlock xorBytes bytesOf _⊕_
 top-bit-cleared = refl
 
@@ -86,11 +85,11 @@ hash-encrypted h cipher nonce = ap (λ s. cipher (tagBlock nonce s)) (padded-apa
 
 -- a derived part is the front of the encrypted block: the number, little-endian, then the nonce. Here the block cipher changes nothing
 module _ (a b c d : ℕ) (rest : List ℕ) where
-  pub derived-front : derivedBy (λ b. b) (a ∷ b ∷ c ∷ d ∷ rest) 0x04030201 ≡ 1 ∷ 2 ∷ 3 ∷ 4 ∷ a ∷ b ∷ c ∷ d ∷ []
+  pub derived-front : derivedBy (λ s. s) (a ∷ b ∷ c ∷ d ∷ rest) 0x04030201 ≡ 1 ∷ 2 ∷ 3 ∷ 4 ∷ a ∷ b ∷ c ∷ d ∷ []
   unfolding bytesOf
   derived-front = refl
 
-  pub derived-pair : pairBy (λ b. b) (a ∷ b ∷ c ∷ d ∷ rest) 2 3 ≡ 2 ∷ 0 ∷ 0 ∷ 0 ∷ a ∷ b ∷ c ∷ d ∷ 3 ∷ 0 ∷ 0 ∷ 0 ∷ a ∷ b ∷ c ∷ d ∷ []
+  pub derived-pair : pairBy (λ s. s) (a ∷ b ∷ c ∷ d ∷ rest) 2 3 ≡ 2 ∷ 0 ∷ 0 ∷ 0 ∷ a ∷ b ∷ c ∷ d ∷ 3 ∷ 0 ∷ 0 ∷ 0 ∷ a ∷ b ∷ c ∷ d ∷ []
   unfolding bytesOf
   derived-pair = refl
 

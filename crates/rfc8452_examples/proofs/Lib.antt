@@ -1,2 +1,3 @@
--- RFC 8452 section 8's worked example, computed.
+-- RFC 8452's worked example and a vector with a key of 32 bytes, computed.
 mod Worked
+mod LongKey

@@ -1,2 +1,0 @@
--- What the worked example starts from.
-pub mod Example
