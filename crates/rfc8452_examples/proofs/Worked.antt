@@ -24,7 +24,7 @@ use Rattle.rfc8452.specs.Tag.{lengthBlock, hashed, tagBlock, tagUnder}
 use Rattle.rfc8452.specs.Counter.{counterBlock, nextCounter}
 use Rattle.rfc8452.specs.Siv.{mask, tag, sealed}
 
--- what it starts from: the text has the letters of "Hello world", the associated data those of "example"
+-- what it starts from: the text has the letters of Hello world, the associated data those of example
 abbrev key : List ℕ
 key = hex 16 0xee8e1ed9ff2540ae8f2ba9f50bc2f27c
 
