@@ -4,3 +4,4 @@ pub mod Range
 pub mod Groups
 pub mod Unique
 pub mod KeyTurns
+pub mod Cases
