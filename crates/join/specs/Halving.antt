@@ -1,4 +1,4 @@
--- The state of the halving loop. Assumes nothing.
+-- The state of the halving loop, and its one counted dot. Assumes nothing.
 use Prim.Native.Nat.{ℕ, _/_, _%_}
 use mathlib.Core.Bool.{cond}
 use lib.Dec.{eqb, ltb}
@@ -11,6 +11,10 @@ use Rattle.join.specs.declared.halving.Multiplied.{Multiplied}
 
 abbrev pub multipliedBy : (h n a : ℕ) → Multiplied
 multipliedBy h n a = record { product = element (times h n a); dots = dotsOf n }
+
+-- one dot more: the product and the count move together
+abbrev pub multiplied : Multiplied → (h : ℕ) → Multiplied
+multiplied held h = record { product = element (dot (value (held .product)) h); dots = after 1 (held .dots) }
 
 -- the lowest digit of `left` chooses whether the square is multiplied in
 abbrev pub chosen : Halving → Halving

@@ -1,9 +1,10 @@
 // An element multiplied n times by another, by halving n: the digits of n choose which squares take part,
-// and the last squaring, which no digit would use, is not made.
+// and the last squaring, which no digit would use, is not made. `Multiplied::by` alone makes a dot, and it
+// alone moves the count.
 use field::FieldElement;
 ghost use mathlib.Core.Path.{_≡_};
 ghost use Rattle.field.specs.Element.{value};
-ghost use Rattle.join.specs.Halving.{chosen, halved, multipliedBy};
+ghost use Rattle.join.specs.Halving.{multiplied, chosen, halved, multipliedBy};
 
 // The product so far, the square for the lowest digit of `left`, the digits to go, and the dots spent.
 pub struct Halving {
@@ -19,6 +20,19 @@ pub struct Multiplied {
     pub dots: u64,
 }
 
+impl Multiplied {
+    // The one counted dot: multiplies the product held by h, and adds one to the count.
+    fn by(self, h: FieldElement) -> Multiplied
+        ensures { λ r. ⌜ r ≡ multiplied self (value h) ⌝ }
+    {
+        let held = self.product;
+        Multiplied {
+            product: held.dot(h),
+            dots: std::num::wrapping_add_u64(self.dots, 1),
+        }
+    }
+}
+
 impl Halving {
     // The lowest digit: where it is 1, its square is multiplied in.
     fn choose(self) -> Halving
@@ -29,11 +43,17 @@ impl Halving {
         }
         let product = self.product;
         let square = self.square;
+        let held = Multiplied {
+            product,
+            dots: self.dots,
+        };
+        let made = held.by(square);
+        let next = made.product;
         Halving {
-            product: product.dot(square),
+            product: next,
             square,
             left: self.left,
-            dots: std::num::wrapping_add_u64(self.dots, 1),
+            dots: made.dots,
         }
     }
 
@@ -51,11 +71,17 @@ impl Halving {
                 dots: self.dots,
             };
         }
+        let held = Multiplied {
+            product: square,
+            dots: self.dots,
+        };
+        let made = held.by(square);
+        let next = made.product;
         Halving {
             product,
-            square: square.dot(square),
+            square: next,
             left: self.left / 2,
-            dots: std::num::wrapping_add_u64(self.dots, 1),
+            dots: made.dots,
         }
     }
 }

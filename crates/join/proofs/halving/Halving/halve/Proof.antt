@@ -7,6 +7,7 @@ use Rattle.gf2.specs.Polyval.{dot}
 use Rattle.field.specs.Element.{value, element}
 use Rattle.field.specs.Rf.{after}
 use Rattle.join.specs.declared.halving.Halving.{Halving}
+use Rattle.join.specs.declared.halving.Multiplied.{Multiplied}
 use borrow.Author.Needs.{needs}
 use Rattle.join.proofs.halving.Halving.halve.Statement.{statement}
 use Rattle.join.proofs.halving.Halving.halve.Tie as tie
@@ -19,17 +20,14 @@ byTest s t =
 returns : tie.Need-returns
 returns c = let s = c .before .before .before .before .args .self in sym (ap (byTest s) (le-ltb 1 (s .left) (c .if1 .taken)))
 
-dot-requires : tie.Need-dot-requires
-dot-requires c κs = search needs
-
-wrapping-add-u64-requires : tie.Need-wrapping-add-u64-requires
-wrapping-add-u64-requires c κs = search needs
+by-requires : tie.Need-by-requires
+by-requires c κs = search needs
 
 returns-2 : tie.Need-returns-2
 returns-2 c =
     let s : Halving = c .before .before .before .before .before .before .before .args .self in
-    (λ i. record { product = s .product; square = c .before .before .dot .ensures i; left = s .left / 2; dots = c .wrapping-add-u64 .ensures i })
+    ap (λ (made : Multiplied). record { product = s .product; square = made .product; left = s .left / 2; dots = made .dots }) (c .before .before .by .ensures)
     ∙ sym (ap (byTest s) (lt-ltb 1 (s .left) (c .before .before .before .if1 .left)))
 
 pub halve-spec : {M : Type 1} → statement M
-halve-spec = tie.close (tie.spec returns dot-requires wrapping-add-u64-requires returns-2)
+halve-spec = tie.close (tie.spec returns by-requires returns-2)
