@@ -40,7 +40,8 @@ pub fn feed_blocks(h: Hash, route: Route, s: &[u8]) -> Fed
 pub fn feed_padded(h: Hash, route: Route, s: &[u8]) -> Fed
     ensures { λ r. ⌜ r ≡ paddedOf route h (now (s .entry)) ⌝ }
 {
-    if 0 < h.count {
+    let count = h.count;
+    if 0 < count {
         return records::refused(h, answer::BAD_RECORD);
     }
     absorb(h, route, s)

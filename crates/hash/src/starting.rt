@@ -13,10 +13,11 @@ ghost use Rattle.feeding.specs.Calls.{startOf, resetOf};
 pub fn start(key: &[u8]) -> Fed
     ensures { λ r. ⌜ r ≡ startOf (now (key .entry)) ⌝ }
 {
+    let h = block::block_of(key);
     if key.len() != 16 {
         return records::refused(records::zero(), answer::KEY_LENGTH);
     }
-    let expanded = key::expand(block::block_of(key));
+    let expanded = key::expand(h);
     let made = Counted {
         element: FieldElement::ZERO,
         multiplies: expanded.multiplies,

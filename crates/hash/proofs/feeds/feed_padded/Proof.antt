@@ -14,7 +14,7 @@ refused-requires c κs = search needs
 
 returns : tie.Need-returns
 returns c =
-    let a = c .before .before .before .before .args in
+    let a = c .before .before .before .args in
     c .refused .ensures ∙ sym (ap (λ t. fedOr (cond t badRecord done) (absorbed (a .route) (a .h) (a .s .now))) (lt-ltb 0 (a .h .count) (c .before .if1 .taken)))
 
 absorb-requires : tie.Need-absorb-requires
@@ -22,7 +22,7 @@ absorb-requires c κs = search needs
 
 returns-2 : tie.Need-returns-2
 returns-2 c =
-    let a = c .before .before .before .before .args in
+    let a = c .before .before .before .args in
     c .absorb .ensures ∙ sym (ap (λ t. fedOr (cond t badRecord done) (absorbed (a .route) (a .h) (a .s .now))) (le-ltb 0 (a .h .count) (c .before .if1 .left)))
 
 pub feed-padded-spec : {M : Type 1} → statement M

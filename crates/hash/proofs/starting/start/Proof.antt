@@ -16,6 +16,9 @@ use borrow.Author.Needs.{needs}
 use Rattle.hash.proofs.starting.start.Statement.{statement}
 use Rattle.hash.proofs.starting.start.Tie as tie
 
+block-of-requires : tie.Need-block-of-requires
+block-of-requires c κs = search needs
+
 zero-requires : tie.Need-zero-requires
 zero-requires c κs = search needs
 
@@ -24,11 +27,8 @@ refused-requires c κs = search needs
 
 returns : tie.Need-returns
 returns c =
-    let k = c .before .before .before .before .args .key .now in
+    let k = c .before .before .before .before .before .args .key .now in
     c .refused .ensures ∙ sym (ap (λ t. fedOr (cond (not t) keyLength done) (holding (keyOf (number k)) (counted 0 expansionCost) [])) (ne-eqb (length k) 16 (c .before .before .if1 .taken)))
-
-block-of-requires : tie.Need-block-of-requires
-block-of-requires c κs = search needs
 
 expand-requires : tie.Need-expand-requires
 expand-requires c κs = search needs
@@ -45,8 +45,8 @@ holding-requires c κs = search needs
 returns-2 : tie.Need-returns-2
 returns-2 c =
     let k = c .before .before .before .before .before .before .args .key .now in
-    let long : length k ≡ 16 = c .before .before .before .before .if1 .left in
-    let e = c .before .before .expand .ensures ∙ ap expandedOf (c .before .before .before .block-of .ensures .whole ∙ ap number (take-all 16 k (omega arith))) in
+    let long : length k ≡ 16 = c .before .before .before .if1 .left in
+    let e = c .before .before .expand .ensures ∙ ap expandedOf (c .before .before .before .before .block-of .ensures .whole ∙ ap number (take-all 16 k (omega arith))) in
     c .holding .ensures ∙ (λ i. holding (e i .key) (counted 0 (e i .multiplies)) [])
     ∙ sym (ap (λ t. fedOr (cond (not t) keyLength done) (holding (keyOf (number k)) (counted 0 expansionCost) [])) (eq-eqb (length k) 16 long))
 
@@ -54,10 +54,10 @@ pub start-spec : {M : Type 1} → statement M
 start-spec =
     tie.close
     (tie.spec
+    block-of-requires
     zero-requires
     refused-requires
     returns
-    block-of-requires
     expand-requires
     array-share-prefix-none
     slice-aggregate-holding
