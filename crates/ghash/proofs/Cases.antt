@@ -1,12 +1,19 @@
 -- The cases of the call, proved of the definitions. Assumes nothing.
-use mathlib.Core.Path.{_≡_, refl, _∙_}
-use mathlib.Core.List.{List, [], _∷_, _++_, reverse}
-use Prim.Native.Nat.{ℕ}
+use mathlib.Core.Path.{_≡_, refl, ap, _∙_}
+use mathlib.Core.Bool.{cond}
+use mathlib.Core.List.{List, [], _∷_, _++_, reverse, map}
+use Prim.Native.Nat.{ℕ, _^_}
 use lib.ListN.{replicate}
+use borrow.Author.Tests.{ne-eqb}
 use Rattle.octets.specs.Numbers.{number, bytesOf}
 use Rattle.octets.proofs.Numbers.{bytes-++, bytesOf-bytes}
 use Rattle.sp800_38d.specs.Ghash.{bitBlocksN, bitBlocks}
-use Rattle.ghash.specs.Calls.{hashedOf}
+use Rattle.field.specs.Element.{value, element}
+use Rattle.rfc8452.specs.Machine.{step, run, polyval}
+use Rattle.rfc8452.specs.Blocks.{blocksN, blocks}
+use Rattle.rfc8452.specs.AppendixA.{reversed, keyFor}
+use Rattle.rfc8452.proofs.Cases.{key-for}
+use Rattle.ghash.specs.Calls.{ghashStartAnswer, ghashStartOf, fedOf, ghashTagOf, ghashAnswer, hashedOf}
 use Rattle.rfc8452.proofs.Reversed.{bytes-reverse}
 use Rattle.sp800_38d.proofs.Equal.{ghash-is}
 use Rattle.sp800_38d.proofs.Cases.{rfc-ghash}
@@ -30,6 +37,25 @@ rfc-ghash-call =
           (bytes-reverse (bytesOf 16 0xd1a24ddd2721d006bbe45f20d3c9f362) (bytesOf-bytes 16 0xd1a24ddd2721d006bbe45f20d3c9f362))) ∙ rfc-ghash) i));
     }
 
+-- "mulX_POLYVAL(ByteReverse(H)) = f6ea96744df0633aec8424b18e26c54a": a key of 16 bytes alone is taken
+pub sixteen-start : ghashStartOf (printed 0x25629347589242761d31f826ba4b757b)
+    ≡ record { answer = 0; ghash = record { key = element (number (printed 0xf6ea96744df0633aec8424b18e26c54a)); acc = record { lo = 0; hi = 0 } } }
+unfolding bytesOf
+sixteen-start = λ i. record { answer = 0; ghash = record { key = element (key-for i); acc = element 0 } }
+
+pub fifteen-start : ghashStartOf (replicate 15 7) .answer ≡ 1
+fifteen-start = refl
+
+pub seventeen-start : ghashStartOf (replicate 17 7) .answer ≡ 1
+seventeen-start = refl
+
+-- "Any count, hash, tag, record or position it returns is all zero": whatever is refused
+pub refused-start : (key : List ℕ) → (ghashStartAnswer key ≡ 0 → ⊥) → ghashStartOf key ≡ record { answer = ghashStartAnswer key; ghash = record { key = record { lo = 0; hi = 0 }; acc = record { lo = 0; hi = 0 } } }
+refused-start key n = ap (λ t. cond t (record { answer = 0; ghash = record { key = element (keyFor key); acc = element 0 } }) (record { answer = ghashStartAnswer key; ghash = record { key = element 0; acc = element 0 } })) (ne-eqb (ghashStartAnswer key) 0 n)
+
+pub refused-call : (key s : List ℕ) → (ghashAnswer key s ≡ 0 → ⊥) → hashedOf key s ≡ record { answer = ghashAnswer key s; tag = replicate 16 0 }
+refused-call key s n = ap (λ t. cond t (record { answer = 0; tag = reverse (bytesOf 16 (polyval (keyFor key) (map reversed (blocks s)))) }) (record { answer = ghashAnswer key s; tag = replicate 16 0 })) (ne-eqb (ghashAnswer key s) 0 n)
+
 -- the order of the answers: a bad key before blocks that are not whole
 pub key-first : hashedOf [] (7 ∷ []) ≡ record { answer = 1; tag = replicate 16 0 }
 key-first = refl
@@ -39,3 +65,13 @@ then-blocks = refl
 
 pub no-blocks : hashedOf (replicate 16 7) [] .answer ≡ 0
 no-blocks = refl
+
+-- a feed keeps the key and absorbs each block reversed, the last short one filled with zeros; the tag is the element's bytes, the last one first
+pub feed-step : (h a : ℕ) → fedOf (record { key = element h; acc = element a }) (1 ∷ [])
+    ≡ record { key = element h; acc = element (step (value (element h)) (value (element a)) (2 ^ 120)) }
+unfolding run blocks blocksN number bytesOf
+feed-step h a = refl
+
+pub tag-reversed : ghashTagOf (record { key = element 0; acc = element 0x0102 }) ≡ replicate 14 0 ++ (1 ∷ 2 ∷ [])
+unfolding bytesOf
+tag-reversed = refl

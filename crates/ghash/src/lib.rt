@@ -15,17 +15,18 @@ pub struct Hashed {
 pub fn ghash(key: &[u8], blocks: &[u8]) -> Hashed
     ensures { λ r. ⌜ r ≡ hashedOf (now (key .entry)) (now (blocks .entry)) ⌝ }
 {
+    let none = [0u8; 16];
     let started = Ghash::start(key);
     if started.answer != answer::DONE {
         return Hashed {
             answer: started.answer,
-            tag: [0u8; 16],
+            tag: none,
         };
     }
     if blocks.len() % 16 != 0 {
         return Hashed {
             answer: answer::NOT_WHOLE_BLOCKS,
-            tag: [0u8; 16],
+            tag: none,
         };
     }
     let begun = started.ghash;

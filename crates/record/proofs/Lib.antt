@@ -2,4 +2,5 @@
 pub mod Powers
 pub mod Whole
 pub mod Trips
+pub mod Cases
 pub mod Unique
