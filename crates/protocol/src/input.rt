@@ -1,6 +1,8 @@
 // Standard input in pieces, cut into lines.
 use crate::parts;
 use libc::STDIN_FILENO;
+ghost use mathlib.Core.Path.{_≡_};
+ghost use Rattle.protocol.specs.Input.{nothingRead};
 
 // Where reading stands. The bytes of the piece from `from` to `to` were not looked at yet. The line has `have` characters so
 // far, one more than its buffer holds where it is too long, and is `whole` with its line end. `over`: there are no more lines.
@@ -14,7 +16,9 @@ pub struct Reading {
 
 impl Reading {
     // Nothing was read yet.
-    pub fn start() -> Reading {
+    pub fn start() -> Reading
+        ensures { λ r. ⌜ r ≡ nothingRead ⌝ }
+    {
         Reading {
             from: 0,
             to: 0,

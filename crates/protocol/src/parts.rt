@@ -1,15 +1,20 @@
 // Parts of byte strings, and what stands where in them.
 ghost use Prim.Native.Nat.{_≤_};
+ghost use mathlib.Core.Path.{_≡_};
 ghost use lib.ListN.{length};
+ghost use Rattle.protocol.specs.Parts.{partOf};
 
 // The part of s from a to e, or nothing where there is no such part.
-pub(crate) fn part(s: &[u8], a: usize, e: usize) -> &[u8] {
-    if a <= e {
-        if e <= s.len() {
-            return &s[a..e];
-        }
+pub(crate) fn part(s: &[u8], a: usize, e: usize) -> &[u8]
+    ensures { λ r. ⌜ now r ≡ partOf (now (s .entry)) a e ⌝ }
+{
+    if e < a {
+        return &s[..0];
     }
-    &s[..0]
+    if s.len() < e {
+        return &s[..0];
+    }
+    &s[a..e]
 }
 
 // Where b first stands in s, from `from` on and before `to`: or `to`.

@@ -10,7 +10,9 @@ use crate::parts;
 use crate::table::Request;
 use libc::STDOUT_FILENO;
 ghost use Prim.Native.Nat.{_≤_};
+ghost use mathlib.Core.Path.{_≡_};
 ghost use lib.ListN.{length};
+ghost use Rattle.protocol.specs.Said.{numbersOf, inKind, withBytes};
 
 // As many answers may wait as leave room for the longest one.
 const WAITING: usize = 350000;
@@ -29,7 +31,9 @@ pub struct Said {
 
 impl Said {
     // Up to three numbers, in the first alternative, and no bytes but those that the form's letters count.
-    pub fn numbers(a: u64, b: u64, c: u64) -> Said {
+    pub fn numbers(a: u64, b: u64, c: u64) -> Said
+        ensures { λ r. ⌜ r ≡ numbersOf a b c ⌝ }
+    {
         Said {
             kind: 0,
             bytes: 0,
@@ -42,15 +46,33 @@ impl Said {
     }
 
     // The same in another alternative of the form.
-    pub fn of_kind(mut self, kind: usize) -> Said {
-        self.kind = kind;
-        self
+    pub fn of_kind(self, kind: usize) -> Said
+        ensures { λ r. ⌜ r ≡ inKind self kind ⌝ }
+    {
+        Said {
+            kind,
+            bytes: self.bytes,
+            a: self.a,
+            b: self.b,
+            c: self.c,
+            d: self.d,
+            e: self.e,
+        }
     }
 
     // The same with so many bytes of the space.
-    pub fn with_bytes(mut self, bytes: usize) -> Said {
-        self.bytes = bytes;
-        self
+    pub fn with_bytes(self, bytes: usize) -> Said
+        ensures { λ r. ⌜ r ≡ withBytes self bytes ⌝ }
+    {
+        Said {
+            kind: self.kind,
+            bytes,
+            a: self.a,
+            b: self.b,
+            c: self.c,
+            d: self.d,
+            e: self.e,
+        }
     }
 
     // What is left to be said once a letter of the form is printed.

@@ -6,8 +6,10 @@
 // before a colon, as a part of a record.
 use crate::parts;
 use digits::Number;
-ghost use Prim.Native.Nat.{_≤_};
-ghost use lib.ListN.{length};
+ghost use Prim.Native.Nat.{_+_, _*_, _<_, _≤_};
+ghost use mathlib.Core.Path.{_≡_};
+ghost use lib.ListN.{length, getD, drop};
+ghost use Rattle.protocol.specs.Words.{slotAt, spanOf, blockOf, spelledHighFirst};
 
 // Room for the slots of the longest request, three numbers each.
 const SLOTS: usize = 27;
@@ -264,61 +266,53 @@ pub(crate) fn read(letters: &[u8], key: usize, line: &[u8], end: usize, arena: &
     }
 }
 
-// A number of the slots, 0 past them.
-fn slot_number(slots: &[u64], i: usize) -> u64 {
-    if i < slots.len() { slots[i] } else { 0 }
-}
-
-// A number of the slots that is a place of the arena.
-fn slot_index(slots: &[u64], i: usize) -> usize {
-    slot_number(slots, i) as usize
-}
-
-// The bytes from slot i to slot j: those of words that follow each other follow each other too.
-fn between<'a>(arena: &'a [u8], slots: &[u64], i: usize, j: usize) -> &'a [u8] {
-    if i < SLOTS {
-        if j < SLOTS {
-            return parts::part(
-                arena,
-                slot_index(slots, 3 * i),
-                slot_index(slots, 3 * j + 1),
-            );
-        }
-    }
-    &arena[..0]
+// Number k of slot i, 0 where there is no such slot.
+fn slot_at(slots: [u64; SLOTS], i: usize, k: usize) -> u64
+    requires { ⌜ k < 3 ⌝ }
+    ensures { λ r. ⌜ r ≡ getD slots (3 * i + k) 0 ⌝ }
+{
+    if i < SLOTS / 3 { slots[3 * i + k] } else { 0 }
 }
 
 impl Words {
-    // The bytes of the words from i to j.
-    pub fn span(self, arena: &[u8], i: usize, j: usize) -> &[u8] {
+    // The bytes of the words from i to j: those of words that follow each other follow each other too.
+    pub fn span(self, arena: &[u8], i: usize, j: usize) -> &[u8]
+        ensures { λ r. ⌜ now r ≡ spanOf self (now (arena .entry)) i j ⌝ }
+    {
         let slots = self.slots;
-        between(arena, &slots, i, j)
+        let from = slot_at(slots, i, 0) as usize;
+        let to = slot_at(slots, j, 1) as usize;
+        parts::part(arena, from, to)
     }
 
     // The bytes of word i.
-    pub fn bytes(self, arena: &[u8], i: usize) -> &[u8] {
-        let slots = self.slots;
-        between(arena, &slots, i, i)
+    pub fn bytes(self, arena: &[u8], i: usize) -> &[u8]
+        ensures { λ r. ⌜ now r ≡ spanOf self (now (arena .entry)) i i ⌝ }
+    {
+        self.span(arena, i, i)
     }
 
     // The number of word i.
-    pub fn number(self, i: usize) -> u64 {
+    pub fn number(self, i: usize) -> u64
+        ensures { λ r. ⌜ r ≡ slotAt self i 2 ⌝ }
+    {
         let slots = self.slots;
-        if i < SLOTS {
-            return slot_number(&slots, 3 * i + 2);
-        }
-        0
+        slot_at(slots, i, 2)
     }
 
     // The first 16 bytes of word i, zeros where it has fewer.
-    pub fn block(self, arena: &[u8], i: usize) -> [u8; 16] {
+    pub fn block(self, arena: &[u8], i: usize) -> [u8; 16]
+        ensures { λ r. ⌜ r ≡ blockOf (spanOf self (now (arena .entry)) i i) ⌝ }
+    {
         let mut b = [0u8; 16];
         octets::copy(self.bytes(arena, i), &mut b);
         b
     }
 
     // The number that the digits of word i spell, the highest first.
-    pub fn spelled(self, arena: &[u8], i: usize) -> u64 {
+    pub fn spelled(self, arena: &[u8], i: usize) -> u64
+        ensures { λ r. ⌜ r ≡ spelledHighFirst (spanOf self (now (arena .entry)) i i) ⌝ }
+    {
         big_endian(self.bytes(arena, i))
     }
 
@@ -336,17 +330,23 @@ impl Words {
 }
 
 // Where the bytes of the words lie: behind the `at` bytes that wait in `out`.
-pub fn arena(out: &[u8], at: usize) -> &[u8] {
+pub fn arena(out: &[u8], at: usize) -> &[u8]
+    ensures { λ r. ⌜ now r ≡ drop at (now (out .entry)) ⌝ }
+{
     parts::part(out, at, out.len())
 }
 
 // A byte as a number of 64 bits.
-fn wide(b: u8) -> u64 {
+fn wide(b: u8) -> u64
+    ensures { λ r. ⌜ r ≡ b ⌝ }
+{
     b as u64
 }
 
 // The number that bytes spell, the highest first: its low 64 bits.
-fn big_endian(s: &[u8]) -> u64 {
+fn big_endian(s: &[u8]) -> u64
+    ensures { λ r. ⌜ r ≡ spelledHighFirst (now (s .entry)) ⌝ }
+{
     let mut x: u64 = 0;
     let mut i = 0;
     while i < s.len() {
