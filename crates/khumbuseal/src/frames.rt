@@ -62,10 +62,10 @@ fn flattened(front: Front) -> FrontCells
 pub extern "C" fn khumbuseal_frame_front(s: &[u8], kind: &mut u8, taken: &mut usize) -> u8
     ensures { λ r. ⌜ frontCells (frontOf (now (s .entry))) ≡ record { answer = r; kind = now (kind .exit); taken = now (taken .exit) } ⌝ }
 {
-    let found = flattened(frame::front_of(s));
-    *kind = found.kind;
-    *taken = found.taken;
-    found.answer
+    let front = flattened(frame::front_of(s));
+    *kind = front.kind;
+    *taken = front.taken;
+    front.answer
 }
 
 // The case of a message as eight numbers.

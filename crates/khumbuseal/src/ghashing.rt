@@ -67,8 +67,10 @@ pub extern "C" fn khumbuseal_ghash_start(cell: &mut [u8; GHASH_SIZE], key: &[u8]
 pub extern "C" fn khumbuseal_ghash_feed_padded(cell: &mut [u8; GHASH_SIZE], s: &[u8])
     ensures { λ _. ⌜ now (cell .exit) ≡ ghashBytes (fedOf (ghashIn (now (cell .entry))) (now (s .entry))) ⌝ }
 {
-    let bytes = encoded(decoded(*cell).feed_padded(s));
-    *cell = bytes;
+    let g = decoded(*cell);
+    let fed = g.feed_padded(s);
+    let fed_bytes = encoded(fed);
+    *cell = fed_bytes;
 }
 
 // The hash of all that was fed. The record is as it was.
@@ -76,6 +78,6 @@ pub extern "C" fn khumbuseal_ghash_feed_padded(cell: &mut [u8; GHASH_SIZE], s: &
 pub extern "C" fn khumbuseal_ghash_finish(cell: &[u8; GHASH_SIZE], tag: &mut [u8; 16])
     ensures { λ _. ⌜ now (tag .exit) ≡ ghashTagOf (ghashIn (now (cell .entry))) ⌝ }
 {
-    let bytes = decoded(*cell).finish();
-    *tag = bytes;
+    let hash = decoded(*cell).finish();
+    *tag = hash;
 }
