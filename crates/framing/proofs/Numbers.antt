@@ -36,8 +36,9 @@ known-rows = (refl, refl, refl)
 pub stepped-lengths : map (holds (row 0 16 48 16)) (0 ∷ 15 ∷ 16 ∷ 17 ∷ 32 ∷ 47 ∷ 48 ∷ 49 ∷ 64 ∷ []) ≡ false ∷ false ∷ true ∷ false ∷ true ∷ false ∷ true ∷ false ∷ false ∷ []
 stepped-lengths = refl
 
--- a sealed part is 16 bytes longer than its plaintext: here one of 4 or 6
-pub row-lengths : (map (allows (Row (row 5 4 6 2))) (4 ∷ 15 ∷ 16 ∷ 19 ∷ 20 ∷ 21 ∷ 22 ∷ 23 ∷ 24 ∷ []) ≡ false ∷ false ∷ false ∷ false ∷ true ∷ false ∷ true ∷ false ∷ false ∷ [])
+-- a sealed part is 16 bytes longer than its plaintext: here one of 5, 7 or 9
+pub row-lengths : (map (allows (Row (row 4 5 9 2))) (5 ∷ 15 ∷ 16 ∷ 20 ∷ 21 ∷ 22 ∷ 23 ∷ 24 ∷ 25 ∷ 26 ∷ 27 ∷ [])
+    ≡ false ∷ false ∷ false ∷ false ∷ true ∷ false ∷ true ∷ false ∷ true ∷ false ∷ false ∷ [])
     × (map (allows Unknown) (0 ∷ 16 ∷ 20 ∷ []) ≡ false ∷ false ∷ false ∷ [])
 row-lengths = (refl, refl)
 
