@@ -63,9 +63,9 @@ module _ (d e : FieldElement) (p q r s t u : Power) (a b : FieldElement) where
   unfolding times dotsOf ones width overDigits
   join-none = refl
 
-  pub join-three : joinOf (hashing (keyWith 2 3 d p q r) a) (hashing (keyWith 2 3 e s t u) b) 3 ≡ joins (dot (dot (dot (value a) H) H) H ⊕ value b) 3
+  pub join-four : joinOf (hashing (keyWith 2 3 d p q r) a) (hashing (keyWith 2 3 e s t u) b) 4 ≡ joins (dot (dot (dot (dot (value a) H) H) H) H ⊕ value b) 3
   unfolding times dotsOf ones width overDigits
-  join-three = refl
+  join-four = refl
 
 -- a message in parts: the parts in their order, each fed to a fresh record, the second one's blocks counted
 pub parts-message : (r : Route) (s t u : List ℕ) → message (Both (Part r s) (Both (Part r t) (Part r u))) ≡ s ++ (t ++ u)
@@ -74,6 +74,8 @@ parts-message r s t u = refl
 pub part-hash : (key s : List ℕ) (r : Route) → hashOf key (Part r s) ≡ wholeOf r (startOf key .hash) s .hash
 part-hash key s r = refl
 
-pub parts-hash : (key : List ℕ) (r : Route) → hashOf key (Both (Part r (replicate 16 7)) (Part r (replicate 32 8)))
-    ≡ joinOf (wholeOf r (startOf key .hash) (replicate 16 7) .hash) (wholeOf r (startOf key .hash) (replicate 32 8) .hash) 2 .hash
-parts-hash key r = refl
+pub parts-hash : (key : List ℕ) (r : Route) → (hashOf key (Both (Part r (replicate 16 7)) (Part r (replicate 32 8)))
+    ≡ joinOf (wholeOf r (startOf key .hash) (replicate 16 7) .hash) (wholeOf r (startOf key .hash) (replicate 32 8) .hash) 2 .hash)
+    × (hashOf key (Both (Part r (replicate 16 7)) (Part r (replicate 31 8)))
+    ≡ joinOf (wholeOf r (startOf key .hash) (replicate 16 7) .hash) (wholeOf r (startOf key .hash) (replicate 31 8) .hash) 1 .hash)
+parts-hash key r = (refl, refl)

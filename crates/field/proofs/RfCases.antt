@@ -11,13 +11,13 @@ use Rattle.field.specs.Rf.{low, high, p1, companionOf, rPart, fPart, rfR
 abbrev words : (lo hi : ℕ) → ℕ
 words lo hi = lo + hi * 2 ^ 64
 
-pub element-words : element (words 1 2 + 3 * 2 ^ 128) ≡ record { lo = 1; hi = 2 }
+pub element-words : element (words (2 ^ 64 - 1) (2 ^ 64 - 2) + 3 * 2 ^ 128) ≡ record { lo = 2 ^ 64 - 1; hi = 2 ^ 64 - 2 }
 element-words = refl
 
-pub words-value : value (record { lo = 1; hi = 2 }) ≡ words 1 2
+pub words-value : value (record { lo = 1; hi = 2 }) ≡ 0x20000000000000001
 words-value = refl
 
-pub low-high : (low (words 1 2) ≡ 1) × (high (words 1 2) ≡ 2) × (p1 ≡ 2 ^ 63 + 2 ^ 62 + 2 ^ 57)
+pub low-high : (low (words (2 ^ 64 - 1) 2) ≡ 2 ^ 64 - 1) × (high (words (2 ^ 64 - 1) 2) ≡ 2) × (p1 ≡ 2 ^ 63 + 2 ^ 62 + 2 ^ 57)
 low-high = (refl, refl, refl)
 
 -- "D = swap(H) + H0·P1"
