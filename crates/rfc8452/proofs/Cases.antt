@@ -72,14 +72,14 @@ pub lengths : lengthBlock 32 5 ≡ 0 ∷ 1 ∷ 0 ∷ 0 ∷ 0 ∷ 0 ∷ 0 ∷ 0 �
 unfolding bytesOf
 lengths = refl
 
--- associated data and text are padded each by itself: a byte and two bytes are two blocks, and the third is the lengths
-pub padded-apart : (h : ℕ) → hashed h (7 ∷ []) (9 ∷ 1 ∷ []) ≡ polyval h (7 ∷ 0x109 ∷ (8 + 16 * 2 ^ 64) ∷ [])
+-- associated data and text are padded each by itself: two bytes and three bytes are two blocks, and the third is the lengths
+pub padded-apart : (h : ℕ) → hashed h (7 ∷ 1 ∷ []) (9 ∷ 1 ∷ 1 ∷ []) ≡ polyval h (0x0107 ∷ 0x010109 ∷ (16 + 24 * 2 ^ 64) ∷ [])
 unfolding hashed blocks blocksN number bytesOf
 padded-apart h = refl
 
 -- the tag is the encrypted block of that hash and the nonce
 pub hash-encrypted : (h : ℕ) (cipher : List ℕ → List ℕ) (nonce : List ℕ)
-    → tagUnder h cipher nonce (7 ∷ []) (9 ∷ 1 ∷ []) ≡ cipher (tagBlock nonce (polyval h (7 ∷ 0x109 ∷ (8 + 16 * 2 ^ 64) ∷ [])))
+    → tagUnder h cipher nonce (7 ∷ 1 ∷ []) (9 ∷ 1 ∷ 1 ∷ []) ≡ cipher (tagBlock nonce (polyval h (0x0107 ∷ 0x010109 ∷ (16 + 24 * 2 ^ 64) ∷ [])))
 unfolding tagUnder
 hash-encrypted h cipher nonce = ap (λ s. cipher (tagBlock nonce s)) (padded-apart h)
 
