@@ -2,4 +2,5 @@
 pub mod Schedule
 pub mod Words
 pub mod Whole
+pub mod Cases
 pub mod Unique

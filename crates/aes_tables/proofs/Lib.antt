@@ -1,3 +1,4 @@
--- The tables at one byte, and that two tables which meet a promise are equal.
+-- The tables at one byte and against FIPS 197, and that two tables which meet a promise are equal.
 pub mod Entry
+pub mod Cases
 pub mod Unique

@@ -38,7 +38,7 @@ pub fn copy(src: &[u8], dst: &mut [u8])
     }
 }
 
-// Compares all 16 bytes, whatever the first ones are: how long it takes says nothing of where two tags differ.
+// Reads all 16 bytes, whatever the first ones are, and branches on none of them. Nothing is proved of how long it takes.
 pub fn same_tag(a: [u8; 16], b: [u8; 16]) -> bool
     ensures { λ r. ⌜ r ≡ sameBytes a b ⌝ }
 {
