@@ -1,10 +1,8 @@
 -- For each public function, two answers that meet its contract, as the checker reads it, are equal, and so is what they leave in the
 -- lent buffer. Assumes nothing.
-use mathlib.Core.Path.{_≡_, sym, _∙_}
-use mathlib.Core.List.{List}
-use Prim.Native.Nat.{ℕ}
-use Rattle.logic.specs.Promise.{Unique}
-use Rattle.digits.specs.Text.{Put}
+use mathlib.Core.Path.{sym, _∙_}
+use denote.Ref.{now}
+use Rattle.logic.specs.Promise.{Unique, UniqueMemory}
 use Rattle.digits.proofs.hex_digit.Kinds as hex-digit-kinds
 use Rattle.digits.proofs.hex_digit.Reads as hex-digit-reads
 use Rattle.digits.proofs.is_hex.Kinds as is-hex-kinds
@@ -28,9 +26,11 @@ decimal-unique κs a x y e f p q = p ∙ sym q
 pub from-hex-unique : Unique 2 from-hex-kinds.ps from-hex-kinds.r from-hex-reads.Post
 from-hex-unique κs a x y e f p q = p .count ∙ sym (q .count)
 
+pub from-hex-memory-unique : UniqueMemory 2 from-hex-kinds.ps from-hex-kinds.r from-hex-reads.Post (λ κs e. now (e .1 .0))
+from-hex-memory-unique κs a x y e f p q = p .memory ∙ sym (q .memory)
+
 pub to-hex-unique : Unique 2 to-hex-kinds.ps to-hex-kinds.r to-hex-reads.Post
 to-hex-unique κs a x y e f p q = p .count ∙ sym (q .count)
 
--- what from_hex and to_hex leave in the buffer
-pub memory-unique : {r q n : ℕ} {made entry exit other : List ℕ} → Put r n made entry exit → Put q n made entry other → exit ≡ other
-memory-unique p q = p .memory ∙ sym (q .memory)
+pub to-hex-memory-unique : UniqueMemory 2 to-hex-kinds.ps to-hex-kinds.r to-hex-reads.Post (λ κs e. now (e .1 .0))
+to-hex-memory-unique κs a x y e f p q = p .memory ∙ sym (q .memory)

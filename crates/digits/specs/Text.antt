@@ -1,7 +1,7 @@
 -- What the words of the line protocol say: bytes as two lower-case hex digits each, the high one first; numbers as decimal digits,
 -- any count of leading zeros allowed, below 2^64. Assumes nothing.
 use Prim.Native.Nat.{ℕ, _+_, _-_, _*_, _/_, _%_, _^_}
-use mathlib.Core.Bool.{Bool, true, cond, _&&_}
+use mathlib.Core.Bool.{Bool, true, false, cond, _&&_}
 use mathlib.Core.Path.{_≡_}
 use mathlib.Core.List.{List, [], _∷_, _++_}
 use lib.Dec.{leb, ltb, eqb}
@@ -66,3 +66,12 @@ longerBy v b = cond (isDecimal b && ltb (v * 10 + (b - 48)) (2 ^ 64)) (Is (v * 1
 pub record Put (answer n : ℕ) (made entry exit : List ℕ) : Type 0 where
   pub count : answer ≡ n
   pub memory : exit ≡ take n made ++ drop n entry
+
+-- the number and the value of each case, and zero where it has none: whether a word is a number, and which
+pub record Values : Type 0 where
+  pub is : Bool
+  pub value : ℕ
+
+abbrev pub valuesOf : Number → Values
+valuesOf (Is n) = record { is = true; value = n }
+valuesOf No = record { is = false; value = 0 }

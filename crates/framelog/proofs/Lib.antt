@@ -1,3 +1,2 @@
--- The laws of the program framelog: of a log's length, and of where the reader stands.
-pub mod Lengths
+-- The laws of the program framelog: of where the reader stands.
 pub mod Places

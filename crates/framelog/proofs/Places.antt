@@ -96,3 +96,8 @@ pub some-bytes : (held more : ℕ) (window : List ℕ) → 0 < more → held + m
 some-bytes held more window h l =
     let e : length (take (held + more - held) (drop held window)) ≡ held + more - held = length-take-le _ _ (rw length-drop (omega arith)) in
     omega arith
+
+-- a byte that is left counts twice and one that is held once; nothing is to be done where the reader has stopped
+pub budgets : (budget (record { from = 1; to = 4; left = 5; offset = 7; frames = 2; going = true }) ≡ 14)
+    × (budget (record { from = 1; to = 4; left = 5; offset = 7; frames = 2; going = false }) ≡ 0)
+budgets = (refl, refl)

@@ -1,9 +1,7 @@
-// How long a log is, which is known before anything of it is printed, and the answer to one that is too long.
+// How long a log is, which is known before anything of it is printed. Whether it is too long, window says.
 use files::Got;
 use libc::STDOUT_FILENO;
-ghost use mathlib.Core.Path.{_≡_};
 ghost use Prim.Native.Nat.{_≤_};
-ghost use Rattle.framelog.specs.Length.{lengthAnswer};
 
 // How long a log is, as far as it was read: no longer than is needed to see that it is too long.
 pub(crate) struct Measured {
@@ -19,10 +17,10 @@ fn measure_some(fd: i32, path: &[u8]) -> Got
     files::read(fd, path, &mut buf)
 }
 
-// How many bytes a log has, up to some more than a log may have.
+// How many bytes a log has, read until it ends or is too long.
 pub(crate) fn measure(fd: i32, path: &[u8]) -> Measured {
     let mut len: usize = 0;
-    while len <= sealing::MAX_LOG {
+    while window::log_answer(len) == answer::DONE {
         let got = measure_some(fd, path);
         let more = got.count;
         if more == 0 {
@@ -34,17 +32,6 @@ pub(crate) fn measure(fd: i32, path: &[u8]) -> Measured {
         len += more;
     }
     Measured { failed: false, len }
-}
-
-// The answer to a log of so many bytes: 15 comes before every call that its frames are read with.
-pub(crate) fn length_answer(len: usize) -> u8
-    ensures { λ r. ⌜ r ≡ lengthAnswer len ⌝ }
-{
-    if sealing::MAX_LOG < len {
-        answer::LOG_TOO_LONG
-    } else {
-        answer::DONE
-    }
 }
 
 // Prints the answer to a log that is too long.

@@ -14,7 +14,7 @@ fn read_log(fd: i32, path: &[u8], key: &[u8]) {
         return;
     }
     let len = measured.len;
-    if length::length_answer(len) != answer::DONE {
+    if window::log_answer(len) != answer::DONE {
         length::put_too_long();
         return;
     }

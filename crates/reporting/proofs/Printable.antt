@@ -1,10 +1,12 @@
 -- Printable pieces in a row, and a line that ends in its newline. Assumes nothing.
 use Prim.Native.Nat.{ℕ, _≤_}
+use native.Mathlib.Omega.{arith}
 use mathlib.Core.Path.{_≡_, refl, sym, ap, _∙_}
 use mathlib.Core.List.{List, [], _∷_, _++_, append-assoc}
 use mathlib.Core.Bool.{Bool, true, false, cond}
 use borrow.Author.Tests.{leb-true}
 use lib.Dec.{leb}
+use lib.ListN.{length, getD, drop, length-append}
 use Rattle.reporting.specs.Ascii.{ascii}
 use Rattle.reporting.specs.Printable.{Each, Printable, OneLine}
 use Rattle.logic.proofs.Tests.{no}
@@ -51,3 +53,21 @@ ending s t p o = record { body = s ++ o .body; is = ap (λ (x : List ℕ). s ++ 
 
 pub newline : OneLine (ascii "\n")
 newline = record { body = []; is = refl; printable = none }
+
+-- what it means of a byte: none below 0x20 and none above 0x7E
+pub each-printable : (b : ℕ) (s : List ℕ) → Printable (b ∷ s) → ((0x20 ≤ b) × (b ≤ 0x7E)) × Printable s
+unfolding Each
+each-printable b s p = (p .each .0, record { each = p .each .1 })
+
+-- a line is one: nothing stands behind a newline in it
+pub one-newline : (s t : List ℕ) → OneLine (s ++ (0x0A ∷ t)) → t ≡ []
+one-newline s t o = last s (o .body) (o .printable .each) (o .is)
+  where
+    last : (s body : List ℕ) → Each body → s ++ (0x0A ∷ t) ≡ body ++ (0x0A ∷ []) → t ≡ []
+    last [] [] p e = ap (drop 1) e
+    last [] (b ∷ body) p e = let z : 0x0A ≡ b = ap (λ (x : List ℕ). getD x 0 0) e in absurd (omega (arith, each-printable b body (record { each = p }) .0))
+    last (a ∷ s) [] p e =
+        let z : length (s ++ (0x0A ∷ t)) ≡ 0 = ap (λ (x : List ℕ). length (drop 1 x)) e in
+        let q = length-append s (0x0A ∷ t) in
+        absurd (omega arith)
+    last (a ∷ s) (b ∷ body) p e = last s body (each-printable b body (record { each = p }) .1 .each) (ap (drop 1) e)

@@ -7,7 +7,7 @@ use native.Mathlib.Nat.{zero-add}
 use native.Mathlib.Omega.{arith}
 use borrow.Author.Tests.{le-leb, lt-leb, leb-true, leb-false}
 use lib.Dec.{leb}
-use lib.ListN.{length, drop, length-append}
+use lib.ListN.{length, take, drop, length-append}
 use lib.Seq.{length-take-le}
 use Rattle.octets.specs.Places.{Wrote}
 use Rattle.reporting.specs.Lines.{roomFor, Line, AtFront}
@@ -45,5 +45,16 @@ line-within {n} {r} {text} {out} {out′} l = by-test (leb (roomFor n) (length o
         omega arith
     by-test false e = let q : r ≡ 0 = l .length-is ∙ ap (λ (b : Bool). cond b (length text) 0) e in omega arith
 
+-- what stands at the front lies within the buffer, and that is all it takes
+pub at-front : (n : ℕ) (out : List ℕ) → n ≤ length out → AtFront n out
+at-front n out h = (h, sym (length-take-le n out h))
+
+pub front-within : (n : ℕ) (out : List ℕ) → AtFront n out → (n ≤ length out) × (length (take n out) ≡ n)
+front-within n out a = (a .0, sym (a .1))
+
 pub line-at-front : {n r : ℕ} {text out out′ : List ℕ} → Line n text out out′ r → AtFront r out′
-line-at-front l = (line-within l, sym (length-take-le _ _ (line-within l)))
+line-at-front l = at-front _ _ (line-within l)
+
+-- the promise of a line leaves no choice
+pub line-fixed : (n : ℕ) (text out x y : List ℕ) (r q : ℕ) → Line n text out x r → Line n text out y q → (x ≡ y) × (r ≡ q)
+line-fixed n text out x y r q l m = (l .out-is ∙ sym (m .out-is), l .length-is ∙ sym (m .length-is))

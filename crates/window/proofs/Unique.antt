@@ -3,10 +3,15 @@
 use mathlib.Core.Path.{sym, _∙_}
 use denote.Ref.{now}
 use Rattle.logic.specs.Promise.{Unique, UniqueMemory}
+use Rattle.window.proofs.log_answer.Kinds as log-answer-kinds
+use Rattle.window.proofs.log_answer.Reads as log-answer-reads
 use Rattle.window.proofs.next_step.Kinds as next-step-kinds
 use Rattle.window.proofs.next_step.Reads as next-step-reads
 use Rattle.window.proofs.slide.Kinds as slide-kinds
 use Rattle.window.proofs.slide.Reads as slide-reads
+
+pub log-answer-unique : Unique 0 log-answer-kinds.ps log-answer-kinds.r log-answer-reads.Post
+log-answer-unique κs a x y e f p q = p ∙ sym q
 
 pub next-step-unique : Unique 1 next-step-kinds.ps next-step-kinds.r next-step-reads.Post
 next-step-unique κs a x y e f p q = p ∙ sym q

@@ -1,10 +1,21 @@
-// A log read in pieces: one step of a reader that holds only some bytes of it. The pieces may have any
-// size, as a file's reads have; proofs/InPieces.antt shows that such a reader reports what a scan of the
-// whole log finds. Assumes nothing.
+// A log that a program reads: what it answers by the log's length, and one step of a reader that holds only
+// some bytes of it. The pieces may have any size, as a file's reads have; proofs/InPieces.antt shows that
+// such a reader reports what a scan of the whole log finds. Assumes nothing.
 use framing::Front;
 ghost use mathlib.Core.Path.{_≡_};
+ghost use Rattle.sealing.specs.Calls.{logAnswer};
 ghost use Rattle.window.specs.Step.{stepOf};
 ghost use Rattle.window.specs.Slide.{Slid};
+
+// A program's answer to a log of so many bytes, before any frame of it is read: 15 where it is too long.
+pub fn log_answer(len: usize) -> u8
+    ensures { λ r. ⌜ r ≡ logAnswer len ⌝ }
+{
+    if sealing::MAX_LOG < len {
+        return answer::LOG_TOO_LONG;
+    }
+    answer::DONE
+}
 
 // What a reader does next: it reports the frame at the front of the bytes that it holds and drops it, or
 // it reads more of the log, or it stops for the reason given, 0 at the log's exact end.
