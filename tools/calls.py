@@ -62,9 +62,20 @@ def names_result(body):
     return name == "_" or re.search(r"(?<!\w)" + re.escape(name) + r"(?!\w)", body[head.end():]) is not None
 
 
+def module_of(path):
+    """A file's module and `::`, nothing for a crate's root."""
+    return "" if path.stem in ("lib", "main") else path.stem + "::"
+
+
+def home(path, owner):
+    """The module by which the compiler names a method: its type's, wherever in the crate the `impl` stands."""
+    declared = [file for file in path.parent.glob("*.rt") if owner and re.search(r"^(?:pub(?:\([a-z]+\))? )?(?:struct|enum) %s\b" % owner[:-2], file.read_text(), flags=re.M)]
+    return module_of(declared[0] if declared else path)
+
+
 def calls(path):
     """The public functions of a file crates/NAME/src/*.rt."""
-    crate, module = path.parts[path.parts.index("src") - 1], "" if path.stem in ("lib", "main") else path.stem + "::"
+    crate = path.parts[path.parts.index("src") - 1]
     text = re.sub(r"//[^\n]*", lambda m: " " * len(m.group()), path.read_text())
     for head in HEAD.finditer(text):
         start = text.index("(", head.end())
@@ -73,5 +84,6 @@ def calls(path):
         answers = re.match(r"\s*->", text[end + 1:]) is not None
         found = list(clauses(text, end + 1))
         promises = [body for word, body in found if word == "ensures"]
-        yield Call(crate, module, owner(text, head.start()), head.group(1), sum(word == "requires" for word, _ in found), len(promises),
+        type_of = owner(text, head.start())
+        yield Call(crate, home(path, type_of), type_of, head.group(1), sum(word == "requires" for word, _ in found), len(promises),
                    any(map(names_result, promises)) if answers else bool(promises), [i for i, p in enumerate(parameters) if re.search(r"&\s*mut\b", p)])

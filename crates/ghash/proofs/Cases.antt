@@ -37,7 +37,7 @@ rfc-ghash-call =
           (bytes-reverse (bytesOf 16 0xd1a24ddd2721d006bbe45f20d3c9f362) (bytesOf-bytes 16 0xd1a24ddd2721d006bbe45f20d3c9f362))) ∙ rfc-ghash) i));
     }
 
--- "mulX_POLYVAL(ByteReverse(H)) = f6ea96744df0633aec8424b18e26c54a": a key of 16 bytes alone is taken
+-- appendix A's key for POLYVAL, of its key for GHASH; a key of 16 bytes alone is taken
 pub sixteen-start : ghashStartOf (printed 0x25629347589242761d31f826ba4b757b)
     ≡ record { answer = 0; ghash = record { key = element (number (printed 0xf6ea96744df0633aec8424b18e26c54a)); acc = record { lo = 0; hi = 0 } } }
 unfolding bytesOf
