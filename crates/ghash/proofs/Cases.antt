@@ -1,17 +1,17 @@
 -- The cases of the call, proved of the definitions. Assumes nothing.
 use mathlib.Core.Path.{_≡_, refl, ap, _∙_}
 use mathlib.Core.Bool.{cond}
-use mathlib.Core.List.{List, [], _∷_, _++_, reverse, map}
+use mathlib.Core.List.{List, [], _∷_, _++_, reverse}
 use Prim.Native.Nat.{ℕ, _^_}
+use lib.Dec.{eqb}
 use lib.ListN.{replicate}
 use borrow.Author.Tests.{ne-eqb}
 use Rattle.octets.specs.Numbers.{number, bytesOf}
 use Rattle.octets.proofs.Numbers.{bytes-++, bytesOf-bytes}
 use Rattle.sp800_38d.specs.Ghash.{bitBlocksN, bitBlocks}
 use Rattle.field.specs.Element.{value, element}
-use Rattle.rfc8452.specs.Machine.{step, run, polyval}
+use Rattle.rfc8452.specs.Machine.{step, run}
 use Rattle.rfc8452.specs.Blocks.{blocksN, blocks}
-use Rattle.rfc8452.specs.AppendixA.{reversed, keyFor}
 use Rattle.rfc8452.proofs.Cases.{key-for}
 use Rattle.ghash.specs.Calls.{ghashStartAnswer, ghashStartOf, fedOf, ghashTagOf, ghashAnswer, hashedOf}
 use Rattle.rfc8452.proofs.Reversed.{bytes-reverse}
@@ -37,7 +37,7 @@ rfc-ghash-call =
           (bytes-reverse (bytesOf 16 0xd1a24ddd2721d006bbe45f20d3c9f362) (bytesOf-bytes 16 0xd1a24ddd2721d006bbe45f20d3c9f362))) ∙ rfc-ghash) i));
     }
 
--- appendix A's key for POLYVAL, of its key for GHASH; a key of 16 bytes alone is taken
+-- a key of 16 bytes alone is taken; RFC 8452, appendix A: POLYVAL's key for this one
 pub sixteen-start : ghashStartOf (printed 0x25629347589242761d31f826ba4b757b)
     ≡ record { answer = 0; ghash = record { key = element (number (printed 0xf6ea96744df0633aec8424b18e26c54a)); acc = record { lo = 0; hi = 0 } } }
 unfolding bytesOf
@@ -49,12 +49,16 @@ fifteen-start = refl
 pub seventeen-start : ghashStartOf (replicate 17 7) .answer ≡ 1
 seventeen-start = refl
 
--- "Any count, hash, tag, record or position it returns is all zero": whatever is refused
-pub refused-start : (key : List ℕ) → (ghashStartAnswer key ≡ 0 → ⊥) → ghashStartOf key ≡ record { answer = ghashStartAnswer key; ghash = record { key = record { lo = 0; hi = 0 }; acc = record { lo = 0; hi = 0 } } }
-refused-start key n = ap (λ t. cond t (record { answer = 0; ghash = record { key = element (keyFor key); acc = element 0 } }) (record { answer = ghashStartAnswer key; ghash = record { key = element 0; acc = element 0 } })) (ne-eqb (ghashStartAnswer key) 0 n)
+-- "Any count, hash, tag, record or position it returns is all zero": for every answer that is not 0
+otherwise : {A : Type 0} (answer : ℕ) (made none : A) → (answer ≡ 0 → ⊥) → cond (eqb answer 0) made none ≡ none
+otherwise answer made none n = ap (λ t. cond t made none) (ne-eqb answer 0 n)
+
+pub refused-start : (key : List ℕ) → (ghashStartAnswer key ≡ 0 → ⊥)
+    → ghashStartOf key ≡ record { answer = ghashStartAnswer key; ghash = record { key = record { lo = 0; hi = 0 }; acc = record { lo = 0; hi = 0 } } }
+refused-start key n = otherwise (ghashStartAnswer key) _ _ n
 
 pub refused-call : (key s : List ℕ) → (ghashAnswer key s ≡ 0 → ⊥) → hashedOf key s ≡ record { answer = ghashAnswer key s; tag = replicate 16 0 }
-refused-call key s n = ap (λ t. cond t (record { answer = 0; tag = reverse (bytesOf 16 (polyval (keyFor key) (map reversed (blocks s)))) }) (record { answer = ghashAnswer key s; tag = replicate 16 0 })) (ne-eqb (ghashAnswer key s) 0 n)
+refused-call key s n = otherwise (ghashAnswer key s) _ _ n
 
 -- the order of the answers: a bad key before blocks that are not whole
 pub key-first : hashedOf [] (7 ∷ []) ≡ record { answer = 1; tag = replicate 16 0 }

@@ -1,5 +1,5 @@
 -- `ghash::ghash` meets its contract. Assumes nothing.
-use mathlib.Core.Path.{sym, ap, _∙_}
+use mathlib.Core.Path.{_≡_, sym, ap, _∙_}
 use Prim.Native.Nat.{_%_}
 use lib.ListN.{length, replicate}
 use borrow.Author.Tests.{eq-eqb, ne-eqb}
@@ -17,8 +17,9 @@ returns : tie.Need-returns
 returns c =
     let a = c .before .before .before .before .before .args in
     let s = c .before .before .start in
+    let refused : s .result .answer ≡ done → ⊥ = c .if1 .taken in
     (λ i. record { answer = s .ensures i .answer; tag = replicate 16 0 })
-    ∙ start-refused (a .key .now) (a .blocks .now) (λ e. c .if1 .taken (ap (λ r. r .answer) (s .ensures) ∙ e))
+    ∙ start-refused (a .key .now) (a .blocks .now) (λ e. refused (ap (λ r. r .answer) (s .ensures) ∙ e))
 
 returns-2 : tie.Need-returns-2
 returns-2 c =
