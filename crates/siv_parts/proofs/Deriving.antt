@@ -12,7 +12,7 @@ use lib.Seq.{take-all, take-at, drop-at, length-take-le}
 use Rattle.octets.specs.Numbers.{number, bytesOf}
 use Rattle.octets.proofs.Numbers.{cells, cells-part}
 use Rattle.fips197.specs.Aes.{aes}
-use Rattle.field.specs.Element.{value}
+use Rattle.field.specs.Element.{value, element}
 use Rattle.aead.specs.declared.cipher.Cipher.{Cipher}
 use Rattle.octets.specs.Strings.{copied}
 use Rattle.aead.specs.Cipher.{encrypted, shortCipher, longCipher, cipherUnder}
@@ -58,6 +58,10 @@ module _ (key nonce : List ℕ) (k : Keys) (d : Derives key nonce k) where
   unfolding hashKey
   derived-hash e = d .whole ∙ ap (λ (f : List ℕ → List ℕ). number (pairBy f nonce 0 1)) (under-is-aes key e)
 
+  -- the element holds all of the hash key's number
+  pub derived-element : k .hash ≡ element (value (k .hash))
+  derived-element = d .hash ∙ ap element (sym (d .whole))
+
   chosen : Bool → Cipher
   chosen b =
       cond b (longCipher (pairBy (encrypted (cipherUnder key)) nonce 2 3 ++ pairBy (encrypted (cipherUnder key)) nonce 4 5))
@@ -84,3 +88,8 @@ module _ (key nonce : List ℕ) (k : Keys) (d : Derives key nonce k) where
   pub derived-cipher : (length key ≡ 16) ⊎ (length key ≡ 32) → encrypted (k .cipher) ≡ aes (cipherKey key nonce)
   unfolding chosen
   derived-cipher e = ap encrypted (d .cipher) ∙ ⊎-elim short-cipher long-cipher e
+
+  -- with a key that has not 32 bytes, of whatever length, the cipher's key is blocks 2 and 3
+  pub derived-short : (length key ≡ 32 → ⊥) → k .cipher ≡ shortCipher (pairBy (encrypted (cipherUnder key)) nonce 2 3)
+  unfolding chosen
+  derived-short h = d .cipher ∙ ap chosen (ne-eqb (length key) 32 h)
