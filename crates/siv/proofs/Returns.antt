@@ -44,10 +44,12 @@ module _ (key nonce ad s out : List ℕ) where
 
   module _ (passed : judgedAnswer key nonce ad s (length out) true ≡ 0) (b : Bool) (judged : b ≡ authentic key nonce ad s) where
     -- the tag differs
-    pub opens-differs : b ≡ false → Opens key nonce ad s out tagDiffers out
-    opens-differs e =
-        opens-refused tagDiffers
-        (sym (ap (judgedAnswer key nonce ad s (length out)) (sym judged ∙ e) ∙ refused-by-tag (length key) (length nonce) (length ad) (length s) (length out) passed)) (λ z. omega arith)
+    pub opens-differs : (after : List ℕ) → b ≡ false → after ≡ out → Opens key nonce ad s out tagDiffers after
+    opens-differs after e ea =
+        let answer : openAnswer key nonce ad s (length out) ≡ tagDiffers =
+        ap (judgedAnswer key nonce ad s (length out)) (sym judged ∙ e) ∙ refused-by-tag (length key) (length nonce) (length ad) (length s) (length out) passed in
+        let same = opens-refused tagDiffers (sym answer) (λ z. omega arith) in
+        record { answer = same .answer; memory = ea ∙ same .memory }
 
     -- the tag agrees
     pub opens-done : (made after : List ℕ) → b ≡ true → made ≡ opened key nonce s → after ≡ made ++ drop (length (bodyOf s)) out → Opens key nonce ad s out 0 after

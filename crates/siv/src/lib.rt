@@ -6,6 +6,7 @@ use siv_parts::keys;
 use siv_parts::keys::Keys;
 use siv_parts::tag;
 ghost use mathlib.Core.Path.{_≡_};
+ghost use mathlib.Core.Bool.{cond};
 ghost use mathlib.Core.List.{_++_};
 ghost use Prim.Native.Nat.{_+_, _≤_};
 ghost use lib.ListN.{length, drop};
@@ -67,6 +68,27 @@ fn is_authentic(keys: Keys, nonce: [u8; 12], ad: &[u8], body: &[u8], tag: [u8; 1
     octets::same_tag(tag::body_tag(keys, nonce, ad, tag, body), tag)
 }
 
+// The text that a body hides goes to the front of out, once its tag has agreed; else out stays as it was. Answers which.
+fn put_opened(
+    keys: Keys,
+    nonce: [u8; 12],
+    ad: &[u8],
+    body: &[u8],
+    tag: [u8; 16],
+    out: &mut [u8],
+) -> bool
+    requires { ⌜ length (now body) ≤ length (now out) ⌝ }
+    ensures answer { λ r. ⌜ r ≡ sameBytes (tagUnder (value (keys .hash)) (encrypted (keys .cipher)) nonce (now (ad .entry)) (maskUnder (encrypted (keys .cipher)) tag (now (body .entry)))) tag ⌝ }
+    ensures memory { λ r. ⌜ now (out .exit) ≡ cond r (maskUnder (encrypted (keys .cipher)) tag (now (body .entry)) ++ drop (length (now (body .entry))) (now (out .entry))) (now (out .entry)) ⌝ }
+{
+    if is_authentic(keys, nonce, ad, body, tag) {
+        let cipher = keys.cipher;
+        put_masked(cipher, tag, body, out);
+        return true;
+    }
+    false
+}
+
 // Seals a plaintext: out gets the ciphertext and the tag. Answers 0, or 1, 2, 4, 5, 7 with out as it was.
 pub fn seal(key: &[u8], nonce: &[u8], ad: &[u8], plaintext: &[u8], out: &mut [u8]) -> u8
     ensures { λ r. ⌜ Seals (now (key .entry)) (now (nonce .entry)) (now (ad .entry)) (now (plaintext .entry)) (now (out .entry)) r (now (out .exit)) ⌝ }
@@ -99,9 +121,7 @@ pub fn open(key: &[u8], nonce: &[u8], ad: &[u8], sealed: &[u8], out: &mut [u8]) 
     let keys = keys::derive(key, n);
     let t = tag_in(sealed);
     let end = sealed.len() - 16;
-    if is_authentic(keys, n, ad, &sealed[..end], t) {
-        let cipher = keys.cipher;
-        put_masked(cipher, t, &sealed[..end], out);
+    if put_opened(keys, n, ad, &sealed[..end], t, out) {
         return answer::DONE;
     }
     answer::TAG_DIFFERS

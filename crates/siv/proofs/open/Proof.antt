@@ -1,10 +1,10 @@
 -- `siv::open` meets its contract. Assumes nothing.
 use Prim.Native.Nat.{ℕ, _-_}
 use mathlib.Core.Path.{_≡_, sym, ap, _∙_}
-use mathlib.Core.Bool.{true}
-use mathlib.Core.List.{List}
+use mathlib.Core.Bool.{Bool, true, false, cond}
+use mathlib.Core.List.{List, _++_}
 use native.Mathlib.Omega.{arith}
-use lib.ListN.{length}
+use lib.ListN.{length, drop}
 use lib.Seq.{length-take-le}
 use Rattle.field.specs.Element.{value}
 use Rattle.octets.specs.Strings.{sameBytes}
@@ -53,67 +53,76 @@ tag-in-requires c κs = fits (c .before .before) .tagged
 sub-end : tie.Need-sub-end
 sub-end c = fits (c .before .before .before) .tagged
 
-slice-aggregate-is-authentic : tie.Need-slice-aggregate-is-authentic
-slice-aggregate-is-authentic c =
+slice-aggregate-put-opened : tie.Need-slice-aggregate-put-opened
+slice-aggregate-put-opened c =
     let s = given (c .before .before .before .before .before) .args .sealed .now in
     sym (length-take-le (length s - 16) s (omega arith))
 
-slice-aggregate-put-masked : tie.Need-slice-aggregate-put-masked
-slice-aggregate-put-masked c =
-    let s = given (c .before .before .before .before .before .before .before .before .before) .args .sealed .now in
-    sym (length-take-le (length s - 16) s (omega arith))
-
-put-masked-requires : tie.Need-put-masked-requires
-put-masked-requires c κs =
-    let f = fits (c .before .before .before .before .before .before .before .before .before) in
-    let s = given (c .before .before .before .before .before .before .before .before .before .before) .args .sealed .now in
+put-opened-requires : tie.Need-put-opened-requires
+put-opened-requires c κs =
+    let f = fits (c .before .before .before .before .before) in
+    let s = given (c .before .before .before .before .before .before) .args .sealed .now in
     let l = length-take-le (length s - 16) s (omega arith) in
     omega (arith, l, f .room)
 
+-- where no length refused
+abbrev lengths : tie.After-put-opened → tie.Else1
+lengths c = c .before .before .before .before .before .before
+
 -- the comparison says whether the sealed part is authentic
-judged : (c : tie.After-is-authentic) →
-    let a = given (c .before .before .before .before .before .before) .args in
-    c .is-authentic .result ≡ authentic (a .key .now) (a .nonce .now) (a .ad .now) (a .sealed .now)
+judged : (c : tie.After-put-opened) →
+    let a = given (lengths c .before) .args in
+    c .put-opened .result ≡ authentic (a .key .now) (a .nonce .now) (a .ad .now) (a .sealed .now)
 judged c =
-    let a = given (c .before .before .before .before .before .before) .args in
-    let n = c .before .before .before .before .nonce-of in
-    let k = c .before .before .before .derive in
+    let a = given (lengths c .before) .args in
+    let n = c .before .before .before .before .before .nonce-of in
+    let k = c .before .before .before .before .derive in
     let f = encrypted (k .result .cipher) in
-    let key = fits (c .before .before .before .before .before) .keyed .key in
+    let key = fits (lengths c) .keyed .key in
     let h = value (k .result .hash) in
-    c .is-authentic .ensures
-    ∙ ap (λ (t : List ℕ). sameBytes (tagUnder h f (n .result) (a .ad .now) (maskUnder f t (bodyOf (a .sealed .now)))) t) (c .before .before .tag-in .ensures)
+    c .put-opened .ensures .0
+    ∙ ap (λ (t : List ℕ). sameBytes (tagUnder h f (n .result) (a .ad .now) (maskUnder f t (bodyOf (a .sealed .now)))) t) (c .before .before .before .tag-in .ensures)
     ∙ held-authentic (a .key .now) (n .result) h f (derived-hash (a .key .now) (n .result) (k .result) (k .ensures) key) (derived-cipher (a .key .now) (n .result) (k .result) (k .ensures) key) (a .ad .now) (a .sealed .now)
     ∙ ap (λ (x : List ℕ). authentic (a .key .now) x (a .ad .now) (a .sealed .now)) (n .ensures)
 
--- what is written is the text that it hides
-made : (c : tie.After-is-authentic) →
-    let a = given (c .before .before .before .before .before .before) .args in
-    maskUnder (encrypted (c .before .before .before .derive .result .cipher)) (c .before .before .tag-in .result) (bodyOf (a .sealed .now)) ≡ opened (a .key .now) (a .nonce .now) (a .sealed .now)
+-- the text that the sealed part hides
+abbrev hidden : tie.After-put-opened → List ℕ
+hidden c = maskUnder (encrypted (c .before .before .before .before .derive .result .cipher)) (c .before .before .before .tag-in .result) (bodyOf (given (lengths c .before) .args .sealed .now))
+
+made : (c : tie.After-put-opened) →
+    let a = given (lengths c .before) .args in
+    hidden c ≡ opened (a .key .now) (a .nonce .now) (a .sealed .now)
 made c =
-    let a = given (c .before .before .before .before .before .before) .args in
-    let n = c .before .before .before .before .nonce-of in
-    let k = c .before .before .before .derive in
+    let a = given (lengths c .before) .args in
+    let n = c .before .before .before .before .before .nonce-of in
+    let k = c .before .before .before .before .derive in
     let f = encrypted (k .result .cipher) in
-    let key = fits (c .before .before .before .before .before) .keyed .key in
-    ap (λ (t : List ℕ). maskUnder f t (bodyOf (a .sealed .now))) (c .before .before .tag-in .ensures)
+    let key = fits (lengths c) .keyed .key in
+    ap (λ (t : List ℕ). maskUnder f t (bodyOf (a .sealed .now))) (c .before .before .before .tag-in .ensures)
     ∙ held-opened (a .key .now) (n .result) (value (k .result .hash)) f (derived-hash (a .key .now) (n .result) (k .result) (k .ensures) key) (derived-cipher (a .key .now) (n .result) (k .result) (k .ensures) key) (a .sealed .now)
     ∙ ap (λ (x : List ℕ). opened (a .key .now) x (a .sealed .now)) (n .ensures)
 
+-- what stands in out afterwards, by the comparison
+left-in : (c : tie.After-put-opened) (b : Bool) → c .put-opened .result ≡ b →
+    let a = given (lengths c .before) .args in
+    c .put-opened .last .1 .1 .1 .1 .1 .0 ≡ cond b (hidden c ++ drop (length (bodyOf (a .sealed .now))) (a .out .now)) (a .out .now)
+left-in c b e =
+    let a = given (lengths c .before) .args in
+    c .put-opened .ensures .1 ∙ ap (λ (b : Bool). cond b (hidden c ++ drop (length (bodyOf (a .sealed .now))) (a .out .now)) (a .out .now)) e
+
 returns-2 : tie.Need-returns-2
 returns-2 c =
-    let j = c .before .before .before .before .before .before .before in
-    let e = j .before .before .before .before .before in
-    let a = given (e .before) .args in
-    opens-done (a .key .now) (a .nonce .now) (a .ad .now) (a .sealed .now) (a .out .now) (passed e) (j .is-authentic .result) (judged j) _ _
-    (c .before .before .before .before .before .before .if2 .taken) (made j) (c .before .before .put-masked .ensures)
+    let j = c .before .before .before in
+    let a = given (lengths j .before) .args in
+    opens-done (a .key .now) (a .nonce .now) (a .ad .now) (a .sealed .now) (a .out .now) (passed (lengths j)) (j .put-opened .result) (judged j) _ _
+    (c .if2 .taken) (made j) (left-in j true (c .if2 .taken))
 
 returns-3 : tie.Need-returns-3
 returns-3 c =
-    let j = c .before in
-    let e = j .before .before .before .before .before in
-    let a = given (e .before) .args in
-    opens-differs (a .key .now) (a .nonce .now) (a .ad .now) (a .sealed .now) (a .out .now) (passed e) (j .is-authentic .result) (judged j) (c .if2 .left)
+    let j = c .before .before .before in
+    let a = given (lengths j .before) .args in
+    opens-differs (a .key .now) (a .nonce .now) (a .ad .now) (a .sealed .now) (a .out .now) (passed (lengths j)) (j .put-opened .result) (judged j) _
+    (c .if2 .left) (left-in j false (c .if2 .left))
 
 pub open-spec : {M : Type 1} → statement M
 open-spec =
@@ -125,10 +134,9 @@ open-spec =
     (λ c κs. search needs)
     tag-in-requires
     sub-end
-    slice-aggregate-is-authentic
-    (λ c κs. search needs)
-    slice-aggregate-put-masked
-    put-masked-requires
+    slice-aggregate-put-opened
+    put-opened-requires
     (λ c. search needs)
     returns-2
+    (λ c. search needs)
     returns-3)
