@@ -2,7 +2,7 @@
 use Prim.Native.Nat.{ℕ}
 use mathlib.Core.Path.{_≡_, refl}
 use mathlib.Core.Bool.{Bool, true, false}
-use mathlib.Core.List.{List, [], _∷_, map}
+use mathlib.Core.List.{List, [], _∷_, _++_, map}
 use lib.ListN.{take, drop, replicate}
 use Rattle.framing.specs.declared.Front.the-variants.{Whole, Stop}
 use Rattle.framing.specs.Kinds.{table, rowOf, isKnown, isAllowed}
@@ -10,7 +10,7 @@ use Rattle.framing.specs.Front.{checks, frontOf}
 use Rattle.window.specs.declared.Step.the-variants.{Frame, More, End}
 use Rattle.window.specs.Step.{onFront, stepOf, valuesOf}
 use Rattle.window.specs.Slide.{inside, Slid}
-use Rattle.window.specs.Reader.{Report, ended, before, goOn, reported}
+use Rattle.window.specs.Reader.{ended, before, goOn, reported}
 
 -- each case's number and values, and zero where it has none
 pub frame-values : (kind taken : ℕ) → valuesOf (Frame kind taken) ≡ record { more = false; stop = 0; kind = kind; taken = taken }
@@ -61,7 +61,7 @@ pub insides : (inside 0 2 (1 ∷ 2 ∷ []) ≡ true) × (inside 2 2 (1 ∷ 2 ∷
 insides = (refl, refl, refl, refl)
 
 -- a log of a check-in and the front of another, in two pieces that part the first: one frame, and 12
-pub a-reading : reported 9 (take 10 checkIn ∷ drop 10 checkIn ∷ take 5 checkIn ∷ []) ≡ before checkIn (ended 12)
+pub a-reading : reported 9 (take 10 checkIn ∷ (drop 10 checkIn ++ take 5 checkIn) ∷ []) ≡ record { frames = checkIn ∷ []; stop = 12 }
 unfolding goOn stepOf frontOf checks isKnown isAllowed rowOf table
 a-reading = refl
 
