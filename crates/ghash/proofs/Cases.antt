@@ -2,7 +2,7 @@
 use mathlib.Core.Path.{_≡_, refl, ap, _∙_}
 use mathlib.Core.Bool.{cond}
 use mathlib.Core.List.{List, [], _∷_, _++_, reverse}
-use Prim.Native.Nat.{ℕ, _^_}
+use Prim.Native.Nat.{ℕ, _+_, _*_, _^_}
 use lib.Dec.{eqb}
 use lib.ListN.{replicate}
 use borrow.Author.Tests.{ne-eqb}
@@ -71,8 +71,8 @@ pub no-blocks : hashedOf (replicate 16 7) [] .answer ≡ 0
 no-blocks = refl
 
 -- a feed keeps the key and absorbs each block reversed, the last short one filled with zeros; the tag is the element's bytes, the last one first
-pub feed-step : (h a : ℕ) → fedOf (record { key = element h; acc = element a }) (1 ∷ [])
-    ≡ record { key = element h; acc = element (step (value (element h)) (value (element a)) (2 ^ 120)) }
+pub feed-step : (h a : ℕ) → fedOf (record { key = element h; acc = element a }) (1 ∷ 2 ∷ [])
+    ≡ record { key = element h; acc = element (step (value (element h)) (value (element a)) (2 ^ 120 + 2 * 2 ^ 112)) }
 unfolding run blocks blocksN number bytesOf
 feed-step h a = refl
 
