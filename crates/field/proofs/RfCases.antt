@@ -32,13 +32,13 @@ one = record { m = words 1 2; h = words 4 8; d = words 0x10 0x20 }
 abbrev two : Term
 two = record { m = words 2 1; h = words 0x40 0x80; d = words 0x100 0x200 }
 
-pub r-words : (rOf one ≡ 0x30) × (rOf two ≡ 0x480)
+pub r-cases : (rOf one ≡ 0x30) × (rOf two ≡ 0x480)
 unfolding rPart clmul clmulN _⊕_
-r-words = (refl, refl)
+r-cases = (refl, refl)
 
-pub f-words : (fOf one ≡ 0x18) × (fOf two ≡ 0x240)
+pub f-cases : (fOf one ≡ 0x18) × (fOf two ≡ 0x240)
 unfolding fPart clmul clmulN _⊕_
-f-words = (refl, refl)
+f-cases = (refl, refl)
 
 -- "R + F1 + x^64·F0 + P1·F0"
 pub reduced-words : rfReduce 8 (words 3 5) ≡ words 0x460000000000000d 2
