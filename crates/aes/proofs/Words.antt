@@ -17,7 +17,7 @@ use Rattle.fips197.specs.Cipher.{mix, mixColumn, subBytes, shiftRows, mixColumn
 use Rattle.fips197.proofs.Field.{gmul-lt}
 use Rattle.aes_tables.specs.Words.{mixed0}
 use Rattle.aes.specs.declared.rounds.State.{State}
-use Rattle.aes.specs.State.{row, stateOf}
+use Rattle.aes.specs.State.{columnRow, stateOf}
 
 -- bytes added one by one
 abbrev pub xors : List ℕ → List ℕ → List ℕ
@@ -32,19 +32,19 @@ bytesOf-⊕ (suc k) x y =
     ap₂ (λ (a : ℕ) (l : List ℕ). a ∷ l) (⊕-mod x y 8) (ap (bytesOf k) (⊕-shr x y 8) ∙ bytesOf-⊕ k (x / 256) (y / 256))
 
 -- the rows of a column as the code reads them
-pub row0 : (x : ℕ) → x % 256 ≡ row 0 x
+pub row0 : (x : ℕ) → x % 256 ≡ columnRow 0 x
 unfolding bytesOf
 row0 x = refl
 
-pub row1 : (x : ℕ) → x / 2 ^ 8 % 256 ≡ row 1 x
+pub row1 : (x : ℕ) → x / 2 ^ 8 % 256 ≡ columnRow 1 x
 unfolding bytesOf
 row1 x = refl
 
-pub row2 : (x : ℕ) → x / 2 ^ 16 % 256 ≡ row 2 x
+pub row2 : (x : ℕ) → x / 2 ^ 16 % 256 ≡ columnRow 2 x
 unfolding bytesOf
 row2 x = ap (λ (n : ℕ). n % 256) (sym (shr-shr x 8 8))
 
-pub row3 : (x : ℕ) → x / 2 ^ 24 % 256 ≡ row 3 x
+pub row3 : (x : ℕ) → x / 2 ^ 24 % 256 ≡ columnRow 3 x
 unfolding bytesOf
 row3 x = ap (λ (n : ℕ). n % 256) (sym (ap (λ (n : ℕ). n / 256) (shr-shr x 8 8) ∙ shr-shr x 16 8))
 

@@ -6,8 +6,8 @@ use Rattle.octets.specs.Numbers.{bytesOf}
 use Rattle.aes.specs.declared.rounds.State.{State}
 
 -- row r of a column
-abbrev pub row : ℕ → ℕ → ℕ
-row r x = getD (bytesOf 4 x) r 0
+abbrev pub columnRow : ℕ → ℕ → ℕ
+columnRow r x = getD (bytesOf 4 x) r 0
 
 -- the columns, one after the other
 abbrev pub stateOf : State → List ℕ

@@ -13,7 +13,7 @@ ghost use Rattle.fips197.specs.Table.{tab};
 ghost use Rattle.fips197.specs.Sbox.{sbox};
 ghost use Rattle.fips197.specs.Cipher as fips;
 ghost use Rattle.aes_tables.specs.Words.{mixed0, wordTable};
-ghost use Rattle.aes.specs.State.{row, stateOf};
+ghost use Rattle.aes.specs.State.{columnRow, stateOf};
 
 // A word for each column of the state, its row 0 in the lowest byte.
 struct State {
@@ -77,7 +77,7 @@ fn sub(x: u32, words: &[u32; 256]) -> u8
 // A column of a round but the last. ShiftRows brings its rows from the columns a, b, c and d.
 fn column(a: u32, b: u32, c: u32, d: u32, words: &[u32; 256]) -> u32
     requires { ⌜ now words ≡ wordTable ⌝ }
-    ensures { λ r. ⌜ bytesOf 4 r ≡ fips.mixColumn (sbox (row 0 a)) (sbox (row 1 b)) (sbox (row 2 c)) (sbox (row 3 d)) ⌝ }
+    ensures { λ r. ⌜ bytesOf 4 r ≡ fips.mixColumn (sbox (columnRow 0 a)) (sbox (columnRow 1 b)) (sbox (columnRow 2 c)) (sbox (columnRow 3 d)) ⌝ }
 {
     let p = lookup(a, words);
     let q = lookup(b >> 8, words);
@@ -102,7 +102,7 @@ fn columns(s: State, words: &[u32; 256]) -> State
 // A column of the last round, which mixes none.
 fn last_column(a: u32, b: u32, c: u32, d: u32, words: &[u32; 256]) -> u32
     requires { ⌜ now words ≡ wordTable ⌝ }
-    ensures { λ r. ⌜ bytesOf 4 r ≡ sbox (row 0 a) ∷ sbox (row 1 b) ∷ sbox (row 2 c) ∷ sbox (row 3 d) ∷ [] ⌝ }
+    ensures { λ r. ⌜ bytesOf 4 r ≡ sbox (columnRow 0 a) ∷ sbox (columnRow 1 b) ∷ sbox (columnRow 2 c) ∷ sbox (columnRow 3 d) ∷ [] ⌝ }
 {
     le32(
         sub(a, words),
