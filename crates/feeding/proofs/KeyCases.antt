@@ -55,10 +55,14 @@ pub lengths-compared : (samePowers [] [] ≡ true) × (samePowers [] (powerOf 0 
 unfolding samePowers
 lengths-compared = (refl, refl, refl)
 
--- a check stuck at no: the unit's key belongs to it
+-- a check stuck at no: the unit's key belongs to it, and that of zero
 pub check-yes : checkOf (keyOf unit) ≡ true
 unfolding unit
 check-yes = made-checks unit (lit< tt)
+
+pub zero-key-checks : checkOf (keyOf 0) ≡ true
+unfolding samePowers powersFrom companionOf dot clmul clmulN remainder remainderN timesX modulus xInv128 _⊕_
+zero-key-checks = refl
 
 -- a check stuck at yes: a D value that does not belong, and a power that does not
 pub check-no-d : checkOf (record { powers = record { h = element 1; d = element 1 } ∷ replicate (powerCount - 1) (powerOf 1) }) ≡ false
