@@ -2,7 +2,6 @@
 use Prim.Native.Nat.{ℕ}
 use mathlib.Core.Path.{_≡_, refl, ap, ap₂, _∙_}
 use mathlib.Core.List.{List, [], _++_}
-use lib.ListN.{take}
 use Rattle.octets.specs.Xor.{_⊕_}
 use Rattle.octets.specs.Numbers.{number, bytesOf}
 use Rattle.octets.specs.Strings.{xorBytes}
@@ -20,51 +19,29 @@ use Rattle.modes.specs.Mode.{sealedBy}
 use Rattle.rfc8452.specs.Machine.{step, run}
 use Rattle.rfc8452.specs.Blocks.{blocksN, blocks}
 use Rattle.rfc8452.specs.Keys.{hashKey, cipherKey}
-use Rattle.rfc8452.specs.Tag.{lengthBlock, hashed, tagBlock, tagUnder}
+use Rattle.rfc8452.specs.Tag.{lengthBlock, hashed, tagBlock}
 use Rattle.rfc8452.specs.Counter.{counterBlock, nextCounter}
 use Rattle.rfc8452.specs.Siv.{mask, tag, sealed}
-
--- what it starts from: the text has the letters of Hello world, the associated data those of example
-abbrev key : List ℕ
-key = hex 16 0xee8e1ed9ff2540ae8f2ba9f50bc2f27c
-
-abbrev nonce : List ℕ
-nonce = hex 12 0x752abad3e0afb5f434dc4310
-
-abbrev ad : List ℕ
-ad = hex 7 0x6578616d706c65
-
-abbrev text : List ℕ
-text = hex 11 0x48656c6c6f20776f726c64
+use Rattle.rfc8452_examples.specs.Examples.{key, nonce, ad, text}
+use Rattle.rfc8452_examples.proofs.Steps.{first-halves, tag-by-keys}
 
 -- the blocks of the numbers 0 to 3, encrypted
-block0 : aes key (bytesOf 4 0 ++ nonce) ≡ hex 16 0x310728d9911f1f38c40e952ca83d093e
+derived-blocks : (aes key (bytesOf 4 0 ++ nonce) ≡ hex 16 0x310728d9911f1f38c40e952ca83d093e) × (aes key (bytesOf 4 1 ++ nonce) ≡ hex 16 0x37b24316c3fab9a046ae90952daa0450)
+    × (aes key (bytesOf 4 2 ++ nonce) ≡ hex 16 0xa4c5ae624996327947920b2d2412474b) × (aes key (bytesOf 4 3 ++ nonce) ≡ hex 16 0xc100be4d7e2c6edd1efef004305ab1e7)
 unfolding bytesOf aes cipher rounds addRoundKey mixColumns mix shiftRows subBytes keyExpansion expand temp power sum sbox affine inverse powers gmul remainder remainderN timesX clmul clmulN _⊕_
-block0 = refl
-
-block1 : aes key (bytesOf 4 1 ++ nonce) ≡ hex 16 0x37b24316c3fab9a046ae90952daa0450
-unfolding bytesOf aes cipher rounds addRoundKey mixColumns mix shiftRows subBytes keyExpansion expand temp power sum sbox affine inverse powers gmul remainder remainderN timesX clmul clmulN _⊕_
-block1 = refl
-
-block2 : aes key (bytesOf 4 2 ++ nonce) ≡ hex 16 0xa4c5ae624996327947920b2d2412474b
-unfolding bytesOf aes cipher rounds addRoundKey mixColumns mix shiftRows subBytes keyExpansion expand temp power sum sbox affine inverse powers gmul remainder remainderN timesX clmul clmulN _⊕_
-block2 = refl
-
-block3 : aes key (bytesOf 4 3 ++ nonce) ≡ hex 16 0xc100be4d7e2c6edd1efef004305ab1e7
-unfolding bytesOf aes cipher rounds addRoundKey mixColumns mix shiftRows subBytes keyExpansion expand temp power sum sbox affine inverse powers gmul remainder remainderN timesX clmul clmulN _⊕_
-block3 = refl
+derived-blocks = (refl, refl, refl, refl)
 
 -- both keys
 authentication-key : hashKey key nonce ≡ hex 16 0x310728d9911f1f3837b24316c3fab9a0
 unfolding hashKey bytesOf
-authentication-key = ap₂ (λ (x y : List ℕ). take 8 x ++ take 8 y) block0 block1
+authentication-key = first-halves (derived-blocks .0) (derived-blocks .1)
 
 abbrev encryptionKey : List ℕ
 encryptionKey = hex 16 0xa4c5ae6249963279c100be4d7e2c6edd
 
 encryption-key : cipherKey key nonce ≡ encryptionKey
 unfolding cipherKey bytesOf
-encryption-key = ap₂ (λ (x y : List ℕ). take 8 x ++ take 8 y) block2 block3
+encryption-key = first-halves (derived-blocks .2) (derived-blocks .3)
 
 -- the length block
 lengths : lengthBlock 7 11 ≡ hex 16 0x38000000000000005800000000000000
@@ -101,10 +78,9 @@ key-stream = refl
 
 -- the tag of the definition is that tag
 tag-is : tag key nonce ad text ≡ tagBytes
-unfolding tag tagUnder
 tag-is =
-    ap₂ (λ (k c : List ℕ). aes c (tagBlock nonce (hashed (number k) ad text))) authentication-key encryption-key
-    ∙ ap (λ s. aes encryptionKey (tagBlock nonce s)) hash ∙ ap (aes encryptionKey) masked-hash ∙ encrypted-hash
+    tag-by-keys key nonce ad text authentication-key encryption-key ∙ ap (λ s. aes encryptionKey (tagBlock nonce s)) hash
+    ∙ ap (aes encryptionKey) masked-hash ∙ encrypted-hash
 
 added : xorBytes text (hex 16 0x1551f2c1787e81deac9a99f139540ab5) ≡ hex 11 0x5d349ead175ef6b1def6fd
 unfolding xorBytes bytesOf _⊕_
