@@ -1,0 +1,18 @@
+-- `word::reverse_half` meets its contract. Assumes nothing.
+use mathlib.Core.Path.{ap₂, _∙_}
+use Prim.Native.Nat.{ℕ, _*_, _%_, _^_}
+use lib.Dec.{lit≤}
+use lib.Bits.{bitOr}
+use borrow.Author.Needs.{needs}
+use Rattle.word.proofs.Nibbles.{doubled}
+use Rattle.word.proofs.reverse_half.Statement.{statement}
+use Rattle.word.proofs.reverse_half.Tie as tie
+
+returns : tie.Need-returns
+returns c =
+    let low = c .before in
+    ap₂ (λ (m n : ℕ). bitOr (m * 2 ^ 16 % 2 ^ 64) n) (low .reverse16 .ensures) (c .reverse162 .ensures)
+    ∙ doubled 64 16 (low .before .args .x) (lit≤ tt)
+
+pub reverse-half-spec : {M : Type 1} → statement M
+reverse-half-spec = tie.close (tie.spec (λ c κs. search needs) (λ c κs. search needs) returns)
