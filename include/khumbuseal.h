@@ -54,9 +54,9 @@ extern "C" {
 #define KHUMBUSEAL_HASH_KEY_SIZE 16        /* a key of hashing; a key of sealing has 16 or 32 bytes */
 #define KHUMBUSEAL_TAG_SIZE 16             /* a hash or a tag */
 #define KHUMBUSEAL_NONCE_SIZE 12
-#define KHUMBUSEAL_MAX_AD 256
-#define KHUMBUSEAL_MAX_PLAINTEXT 4096
-#define KHUMBUSEAL_MAX_SEALED 4112         /* KHUMBUSEAL_MAX_PLAINTEXT and the tag */
+#define KHUMBUSEAL_MAX_AD 1024
+#define KHUMBUSEAL_MAX_PLAINTEXT 65536
+#define KHUMBUSEAL_MAX_SEALED 65552        /* KHUMBUSEAL_MAX_PLAINTEXT and the tag */
 #define KHUMBUSEAL_POSITION_SIZE 16        /* the plaintext of a position frame */
 #define KHUMBUSEAL_FRAME_OVERHEAD 32       /* what a frame has besides its plaintext: 16 in front and the tag */
 #define KHUMBUSEAL_MAX_FRAME_PLAINTEXT 160 /* of any kind */

@@ -87,14 +87,15 @@ static void test_open_refusals(void)
                                     KHUMBUSEAL_SEALED_TOO_SHORT, KHUMBUSEAL_TEXT_TOO_LONG, KHUMBUSEAL_NO_ROOM,
                                     KHUMBUSEAL_TAG_DIFFERS};
     int faults, i;
+    EXPECT("seal, to be opened", seal_of(longest_of(LONG_KEY)), KHUMBUSEAL_DONE);
+    memcpy(sealed, out, ROOM);
     for (faults = 0; faults < 128; faults++) {
         struct lengths n = longest_of(LONG_KEY);
         uint8_t wanted = KHUMBUSEAL_DONE, answer;
         size_t short_by = faults & 32 ? 1 : 0;
+        uint8_t damage = faults & 64 ? 1 : 0;
         if ((faults & 24) == 24)
             continue;
-        EXPECT("seal, to be opened", seal_of(n), KHUMBUSEAL_DONE);
-        memcpy(sealed, out, ROOM);
         n.text = KHUMBUSEAL_MAX_SEALED;
         if (faults & 1)
             n.key = 24;
@@ -107,12 +108,12 @@ static void test_open_refusals(void)
         if (faults & 16)
             n.text++;
         n.out = n.text < KHUMBUSEAL_TAG_SIZE + short_by ? 0 : n.text - KHUMBUSEAL_TAG_SIZE - short_by;
-        if (faults & 64)
-            sealed[KHUMBUSEAL_MAX_SEALED - 1] ^= 1;
         for (i = 6; i >= 0; i--)
             if (faults >> i & 1)
                 wanted = order[i];
+        sealed[KHUMBUSEAL_MAX_SEALED - 1] ^= damage;
         answer = open_of(n);
+        sealed[KHUMBUSEAL_MAX_SEALED - 1] ^= damage;
         EXPECT("open: order of refusals", answer, wanted);
         if (wanted)
             EXPECT_ALL("open: refused", out, ROOM, UNTOUCHED);

@@ -1,8 +1,11 @@
 """Requests to seal and to open."""
 
+from functools import lru_cache
+
 import limits
+import longest
 import sealing
-from values import Group, SHORT_LENGTHS, damaged_everywhere, line, some_bytes, some_length, subsets
+from values import Group, SHORT_LENGTHS, damaged_everywhere, flipped, line, some_bytes, some_length, subsets
 
 # RFC 8452 appendix C.3: the two tags from which the counter wraps within the text.
 COUNTER_WRAPS = [
@@ -28,6 +31,7 @@ def open_line(key, nonce, data, sealed, room):
     return line("open", key, nonce, data, sealed, room)
 
 
+@lru_cache(maxsize=8)
 def sealed_part(key, nonce, data, plaintext):
     """What sealing gives where no limit of ours stands in the way, so that parts over a limit can be made too."""
     hash_key, cipher_key = sealing.derive(key, nonce)
@@ -40,7 +44,17 @@ def around(*numbers):
 
 
 def text_lengths():
-    return [*SHORT_LENGTHS, 255, 256, 257, *around(limits.MAX_PLAINTEXT)]
+    """The long ones: around 16 and 256 blocks, where a count of blocks needs another digit or byte, and around the limit."""
+    return [*SHORT_LENGTHS, *around(256, 4096, limits.MAX_PLAINTEXT)]
+
+
+def data_lengths():
+    return [*SHORT_LENGTHS, *around(256, limits.MAX_AD)]
+
+
+def some_text(rng):
+    """Mostly short; a few of any length that can be sealed."""
+    return some_bytes(rng, limits.MAX_PLAINTEXT if rng.random() < 0.05 else 400)
 
 
 def seal_edges(rng):
@@ -49,17 +63,20 @@ def seal_edges(rng):
         key = rng.randbytes(size)
         for n in text_lengths():
             yield seal_line(key, nonce, rng.randbytes(n % 20), rng.randbytes(n), n + 16 + n % 3)
-        for n in (*SHORT_LENGTHS, *around(limits.MAX_AD)):
+        for n in data_lengths():
             yield seal_line(key, nonce, rng.randbytes(n), rng.randbytes(n % 20), 40)
         for n in (0, 1, 16, 20):
             for room in (0, n, *around(n + 16), 70_000):
                 yield seal_line(key, nonce, b"", rng.randbytes(n), room)
+    yield seal_line(bytes(16), bytes(12), b"", bytes(limits.MAX_PLAINTEXT + 1), 0)
     for n in range(67):
         yield seal_line(rng.randbytes(n), nonce, b"", b"", 16)
         yield seal_line(rng.randbytes(16), rng.randbytes(n), b"", b"", 16)
     yield from seal_refusals(rng)
     for text, _ in COUNTER_WRAPS:
         yield seal_line(bytes(32), bytes(12), b"", bytes.fromhex(text), 64)
+    for vector in longest.vectors():
+        yield seal_line(vector.key, vector.nonce, vector.data, vector.text, len(vector.text) + 16)
 
 
 def seal_refusals(rng):
@@ -75,7 +92,7 @@ def seal_refusals(rng):
 
 
 def seal_draw(rng):
-    plaintext = some_bytes(rng, 400)
+    plaintext = some_text(rng)
     data = rng.randbytes(some_length(rng, limits.MAX_AD + 4))
     room = rng.choice([len(plaintext) + 16, len(plaintext) + 16 + rng.randrange(40), rng.randrange(200)])
     return seal_line(some_cipher_key(rng), rng.randbytes(12), data, plaintext, room)
@@ -92,12 +109,16 @@ def open_edges(rng):
             part = sealed_part(key, nonce, b"", rng.randbytes(n))
             for room in (*range(n), n, n + 1, 70_000):
                 yield open_line(key, nonce, b"", part, room)
-        for n in (*SHORT_LENGTHS, *around(limits.MAX_AD)):
+        for n in data_lengths():
             data = rng.randbytes(n)
             yield open_line(key, nonce, data, sealed_part(key, nonce, data, b"seen"), 4)
+    yield open_line(bytes(16), bytes(12), b"", bytes(limits.MAX_SEALED + 1), 0)
     yield from open_refusals(rng)
     for _, sealed in COUNTER_WRAPS:
         yield open_line(bytes(32), bytes(12), b"", bytes.fromhex(sealed), 40)
+    for vector in longest.vectors():
+        part = sealed_part(vector.key, vector.nonce, vector.data, vector.text)
+        yield open_line(vector.key, vector.nonce, vector.data, part, len(vector.text))
 
 
 def damaged_openings(key, nonce, rng):
@@ -121,13 +142,14 @@ def damaged_openings(key, nonce, rng):
 
 def open_refusals(rng):
     """Every set of faults at once: 1, 2, 4, 6, 5, 7, 8. A part cannot be too short and too long."""
+    key, nonce = some_cipher_key(rng), rng.randbytes(12)
+    few, too_many = rng.randbytes(3), rng.randbytes(limits.MAX_AD + 1)
+    short, too_long = rng.randbytes(5), rng.randbytes(limits.MAX_PLAINTEXT + 1)
     for faults in subsets(("key", "nonce", "data", "short", "long", "room", "tag")):
         if {"short", "long"} <= faults:
             continue
-        key, nonce, data = some_cipher_key(rng), rng.randbytes(12), rng.randbytes(3)
-        if "data" in faults:
-            data = rng.randbytes(limits.MAX_AD + 1)
-        part = sealed_part(key, nonce, data, rng.randbytes(limits.MAX_PLAINTEXT + 1 if "long" in faults else 5))
+        data = too_many if "data" in faults else few
+        part = sealed_part(key, nonce, data, too_long if "long" in faults else short)
         if "tag" in faults:
             part = part[:-1] + bytes([part[-1] ^ 1])
         if "short" in faults:
@@ -142,9 +164,9 @@ def open_refusals(rng):
 
 def open_draw(rng):
     key, nonce, data = some_cipher_key(rng), rng.randbytes(12), rng.randbytes(some_length(rng, limits.MAX_AD))
-    part = sealed_part(key, nonce, data, some_bytes(rng, 400))
+    part = sealed_part(key, nonce, data, some_text(rng))
     if rng.random() < 0.3:
-        part = rng.choice(damaged_everywhere(part, rng))
+        part = flipped(part, rng.randrange(len(part)), rng.randrange(8))
     room = len(part) - 16 + (rng.randrange(-3, 40) if rng.random() < 0.3 else 0)
     return open_line(key, nonce, data, part, max(0, room))
 

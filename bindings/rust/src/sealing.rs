@@ -8,11 +8,11 @@ pub const TAG_SIZE: usize = 16;
 /// The bytes of a nonce.
 pub const NONCE_SIZE: usize = 12;
 /// The most associated data that is taken.
-pub const MAX_AD: usize = 256;
+pub const MAX_AD: usize = 1024;
 /// The most plaintext that is sealed at once.
-pub const MAX_PLAINTEXT: usize = 4096;
+pub const MAX_PLAINTEXT: usize = 65536;
 /// The longest sealed part that is opened: the most plaintext, and the tag.
-pub const MAX_SEALED: usize = 4112;
+pub const MAX_SEALED: usize = 65552;
 
 /// Seals: the front of `out` gets the ciphertext, then the tag, and is handed back; it needs 16 bytes more than the
 /// plaintext. Take a fresh nonce for each message under a key. Refuses with 1, 2, 4, 5, 7, in this order.

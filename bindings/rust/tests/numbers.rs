@@ -48,9 +48,9 @@ fn sizes_and_limits() {
     assert_eq!(khumbuseal::HASH_KEY_SIZE, 16);
     assert_eq!(khumbuseal::TAG_SIZE, 16);
     assert_eq!(khumbuseal::NONCE_SIZE, 12);
-    assert_eq!(khumbuseal::MAX_AD, 256);
-    assert_eq!(khumbuseal::MAX_PLAINTEXT, 4096);
-    assert_eq!(khumbuseal::MAX_SEALED, 4112);
+    assert_eq!(khumbuseal::MAX_AD, 1024);
+    assert_eq!(khumbuseal::MAX_PLAINTEXT, 65536);
+    assert_eq!(khumbuseal::MAX_SEALED, 65552);
     assert_eq!(khumbuseal::POSITION_SIZE, 16);
     assert_eq!(khumbuseal::FRAME_OVERHEAD, 32);
     assert_eq!(khumbuseal::MAX_FRAME_PLAINTEXT, 160);

@@ -11,7 +11,7 @@ use Rattle.sealing.specs.Calls.{isNoKey, isNoNonce, commonRefusals, seal
 use Rattle.sealing.specs.Siv as siv
 
 -- rows 4, 5 and 15 of the table
-limits : (maxAd ≡ 256) × (maxPlaintext ≡ 4096) × (maxSealed ≡ 4112) × (maxLog ≡ 1048576)
+limits : (maxAd ≡ 1024) × (maxPlaintext ≡ 65536) × (maxSealed ≡ 65552) × (maxLog ≡ 16777216)
 limits = (refl, refl, refl, refl)
 
 -- keys of 16 and 32 bytes, and no other
@@ -31,22 +31,23 @@ opening-nonces : (openAnswer 16 11 0 16 0 true ≡ 2) × (openAnswer 32 12 0 16 
 opening-nonces = (refl, refl, refl)
 
 -- what both ask first, by itself
-first-asked : (first (commonRefusals 24 11 257) ≡ 1) × (first (commonRefusals 32 11 257) ≡ 2) × (first (commonRefusals 16 12 257) ≡ 4) × (first (commonRefusals 16 12 256) ≡ 0)
+first-asked : (first (commonRefusals 24 11 1025) ≡ 1) × (first (commonRefusals 32 11 1025) ≡ 2) × (first (commonRefusals 16 12 1025) ≡ 4) × (first (commonRefusals 16 12 1024) ≡ 0)
 first-asked = (refl, refl, refl, refl)
 
 lengths-tested : (isNoKey 16 ≡ false) × (isNoKey 24 ≡ true) × (isNoKey 32 ≡ false) × (isNoNonce 12 ≡ false) × (isNoNonce 16 ≡ true)
 lengths-tested = (refl, refl, refl, refl, refl)
 
-associated-data : (sealAnswer 16 12 256 0 16 ≡ 0) × (sealAnswer 16 12 257 0 16 ≡ 4) × (openAnswer 16 12 256 16 0 true ≡ 0) × (openAnswer 16 12 257 16 0 true ≡ 4)
+-- "Associated data 1,024 stands; 1,025 is 4."
+associated-data : (sealAnswer 16 12 1024 0 16 ≡ 0) × (sealAnswer 16 12 1025 0 16 ≡ 4) × (openAnswer 16 12 1024 16 0 true ≡ 0) × (openAnswer 16 12 1025 16 0 true ≡ 4)
 associated-data = (refl, refl, refl, refl)
 
--- "Plaintext 4,096 seals; 4,097 is 5."
-plaintexts : (sealAnswer 16 12 0 4096 4112 ≡ 0) × (sealAnswer 16 12 0 4097 4113 ≡ 5)
+-- "Plaintext 65,536 seals; 65,537 is 5."
+plaintexts : (sealAnswer 16 12 0 65536 65552 ≡ 0) × (sealAnswer 16 12 0 65537 65553 ≡ 5)
 plaintexts = (refl, refl)
 
--- "Sealed part 15 is 6; 16 is tried": then the tag decides
+-- "Sealed part 15 is 6; 16 is tried, and so is 65,552; 65,553 is 5": where it is tried the tag decides
 sealed-parts : (openAnswer 16 12 0 15 16 true ≡ 6) × (openAnswer 16 12 0 16 0 true ≡ 0) × (openAnswer 16 12 0 16 0 false ≡ 8)
-    × (openAnswer 16 12 0 4112 4096 true ≡ 0) × (openAnswer 16 12 0 4112 4096 false ≡ 8) × (openAnswer 16 12 0 4113 4097 true ≡ 5)
+    × (openAnswer 16 12 0 65552 65536 true ≡ 0) × (openAnswer 16 12 0 65552 65536 false ≡ 8) × (openAnswer 16 12 0 65553 65537 true ≡ 5)
 sealed-parts = (refl, refl, refl, refl, refl, refl)
 
 -- "Seal needs n+16 bytes of output for n of plaintext; open of m needs m-16."
@@ -54,29 +55,29 @@ rooms : (sealAnswer 16 12 0 100 115 ≡ 7) × (sealAnswer 16 12 0 100 116 ≡ 0)
 rooms = (refl, refl, refl, refl)
 
 -- where several apply, the first in document 01's order: seal 1, 2, 4, 5, 7; open 1, 2, 4, 6, 5, 7, 8
-seal-order : (sealAnswer 0 0 257 4097 0 ≡ 1) × (sealAnswer 16 0 257 4097 0 ≡ 2) × (sealAnswer 16 12 257 4097 0 ≡ 4) × (sealAnswer 16 12 0 4097 0 ≡ 5) × (sealAnswer 16 12 0 0 0 ≡ 7)
+seal-order : (sealAnswer 0 0 1025 65537 0 ≡ 1) × (sealAnswer 16 0 1025 65537 0 ≡ 2) × (sealAnswer 16 12 1025 65537 0 ≡ 4) × (sealAnswer 16 12 0 65537 0 ≡ 5) × (sealAnswer 16 12 0 0 0 ≡ 7)
 seal-order = (refl, refl, refl, refl, refl)
 
-open-order : (openAnswer 0 0 257 0 0 false ≡ 1) × (openAnswer 16 0 257 0 0 false ≡ 2) × (openAnswer 16 12 257 0 0 false ≡ 4) × (openAnswer 16 12 0 0 0 false ≡ 6)
-    × (openAnswer 16 12 0 4113 0 false ≡ 5) × (openAnswer 16 12 0 17 0 false ≡ 7) × (openAnswer 16 12 0 17 1 false ≡ 8)
+open-order : (openAnswer 0 0 1025 0 0 false ≡ 1) × (openAnswer 16 0 1025 0 0 false ≡ 2) × (openAnswer 16 12 1025 0 0 false ≡ 4) × (openAnswer 16 12 0 0 0 false ≡ 6)
+    × (openAnswer 16 12 0 65553 0 false ≡ 5) × (openAnswer 16 12 0 17 0 false ≡ 7) × (openAnswer 16 12 0 17 1 false ≡ 8)
 open-order = (refl, refl, refl, refl, refl, refl, refl)
 
--- "a program's log is over 1,048,576 bytes"
-logs : (logAnswer 0 ≡ 0) × (logAnswer 1000001 ≡ 0) × (logAnswer 1048576 ≡ 0) × (logAnswer 1048577 ≡ 15)
+-- "A log of 16,777,216 bytes is read; for one of 16,777,217 a program prints 15 before any other line"
+logs : (logAnswer 0 ≡ 0) × (logAnswer 16000001 ≡ 0) × (logAnswer 16777216 ≡ 0) × (logAnswer 16777217 ≡ 15)
 logs = (refl, refl, refl, refl)
 
 -- each string is asked by its own length: one too long or too short at a time. Only an opening that passes all of it needs the tag
 zeros : ℕ → List ℕ
 zeros n = replicate n 0
 
-seal-strings : (siv.sealAnswer (zeros 15) (zeros 12) (zeros 256) (zeros 100) 116 ≡ 1) × (siv.sealAnswer (zeros 32) (zeros 13) (zeros 256) (zeros 100) 116 ≡ 2)
-    × (siv.sealAnswer (zeros 32) (zeros 12) (zeros 257) (zeros 100) 116 ≡ 4) × (siv.sealAnswer (zeros 32) (zeros 12) [] (zeros 4097) 4113 ≡ 5)
-    × (siv.sealAnswer (zeros 32) (zeros 12) (zeros 256) (zeros 100) 115 ≡ 7) × (siv.sealAnswer (zeros 32) (zeros 12) (zeros 256) (zeros 100) 116 ≡ 0)
+seal-strings : (siv.sealAnswer (zeros 15) (zeros 12) (zeros 1024) (zeros 100) 116 ≡ 1) × (siv.sealAnswer (zeros 32) (zeros 13) (zeros 1024) (zeros 100) 116 ≡ 2)
+    × (siv.sealAnswer (zeros 32) (zeros 12) (zeros 1025) (zeros 100) 116 ≡ 4) × (siv.sealAnswer (zeros 32) (zeros 12) [] (zeros 65537) 65553 ≡ 5)
+    × (siv.sealAnswer (zeros 32) (zeros 12) (zeros 1024) (zeros 100) 115 ≡ 7) × (siv.sealAnswer (zeros 32) (zeros 12) (zeros 1024) (zeros 100) 116 ≡ 0)
 unfolding zeros
 seal-strings = (refl, refl, refl, refl, refl, refl)
 
-open-strings : (siv.openAnswer (zeros 15) (zeros 12) (zeros 256) (zeros 116) 100 ≡ 1) × (siv.openAnswer (zeros 32) (zeros 13) (zeros 256) (zeros 116) 100 ≡ 2)
-    × (siv.openAnswer (zeros 32) (zeros 12) (zeros 257) (zeros 116) 100 ≡ 4) × (siv.openAnswer (zeros 32) (zeros 12) (zeros 256) (zeros 15) 100 ≡ 6)
-    × (siv.openAnswer (zeros 32) (zeros 12) [] (zeros 4113) 4097 ≡ 5) × (siv.openAnswer (zeros 32) (zeros 12) (zeros 256) (zeros 116) 99 ≡ 7)
+open-strings : (siv.openAnswer (zeros 15) (zeros 12) (zeros 1024) (zeros 116) 100 ≡ 1) × (siv.openAnswer (zeros 32) (zeros 13) (zeros 1024) (zeros 116) 100 ≡ 2)
+    × (siv.openAnswer (zeros 32) (zeros 12) (zeros 1025) (zeros 116) 100 ≡ 4) × (siv.openAnswer (zeros 32) (zeros 12) (zeros 1024) (zeros 15) 100 ≡ 6)
+    × (siv.openAnswer (zeros 32) (zeros 12) [] (zeros 65553) 65537 ≡ 5) × (siv.openAnswer (zeros 32) (zeros 12) (zeros 1024) (zeros 116) 99 ≡ 7)
 unfolding zeros
 open-strings = (refl, refl, refl, refl, refl, refl)

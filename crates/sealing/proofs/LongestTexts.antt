@@ -1,4 +1,4 @@
--- Against programs that always refuse: a plaintext of 4,096 bytes seals, and what was sealed opens, with keys of both lengths. The cases
+-- Against programs that always refuse: the longest plaintext seals, and what was sealed opens, with keys of both lengths. The cases
 -- that lengths alone decide are proofs/Cases. Assumes nothing.
 use Prim.Native.Nat.{ℕ}
 use mathlib.Core.Path.{_≡_}
@@ -17,14 +17,14 @@ zeros-length : (n : ℕ) → length (zeros n) ≡ n
 unfolding zeros
 zeros-length n = length-replicate n 0
 
-longest-seals : sealAnswer (zeros 16) (zeros 12) [] (zeros 4096) 4112 ≡ 0
-longest-seals = λ i. calls.sealAnswer (zeros-length 16 i) (zeros-length 12 i) 0 (zeros-length 4096 i) 4112
+longest-seals : sealAnswer (zeros 16) (zeros 12) [] (zeros 65536) 65552 ≡ 0
+longest-seals = λ i. calls.sealAnswer (zeros-length 16 i) (zeros-length 12 i) 0 (zeros-length 65536 i) 65552
 
-longest-opens : openAnswer (zeros 16) (zeros 12) [] (sealed (zeros 16) (zeros 12) [] (zeros 4096)) 4096 ≡ 0
-longest-opens = open-seal (zeros 16) (zeros 12) [] (zeros 4096) 4112 4096 longest-seals (omega (arith, zeros-length 4096))
+longest-opens : openAnswer (zeros 16) (zeros 12) [] (sealed (zeros 16) (zeros 12) [] (zeros 65536)) 65536 ≡ 0
+longest-opens = open-seal (zeros 16) (zeros 12) [] (zeros 65536) 65552 65536 longest-seals (omega (arith, zeros-length 65536))
 
-nothing-seals : sealAnswer (zeros 32) (zeros 12) (zeros 256) [] 16 ≡ 0
-nothing-seals = λ i. calls.sealAnswer (zeros-length 32 i) (zeros-length 12 i) (zeros-length 256 i) 0 16
+nothing-seals : sealAnswer (zeros 32) (zeros 12) (zeros 1024) [] 16 ≡ 0
+nothing-seals = λ i. calls.sealAnswer (zeros-length 32 i) (zeros-length 12 i) (zeros-length 1024 i) 0 16
 
-nothing-opens : openAnswer (zeros 32) (zeros 12) (zeros 256) (sealed (zeros 32) (zeros 12) (zeros 256) []) 0 ≡ 0
-nothing-opens = open-seal (zeros 32) (zeros 12) (zeros 256) [] 16 0 nothing-seals (omega arith)
+nothing-opens : openAnswer (zeros 32) (zeros 12) (zeros 1024) (sealed (zeros 32) (zeros 12) (zeros 1024) []) 0 ≡ 0
+nothing-opens = open-seal (zeros 32) (zeros 12) (zeros 1024) [] 16 0 nothing-seals (omega arith)

@@ -3,16 +3,16 @@ use Prim.Native.Nat.{ℕ}
 
 -- associated data, in bytes
 abbrev pub maxAd : ℕ
-maxAd = 256
+maxAd = 1024
 
 -- plaintext of a sealing
 abbrev pub maxPlaintext : ℕ
-maxPlaintext = 4096
+maxPlaintext = 65536
 
 -- sealed part of an opening: the plaintext's limit and the tag's 16 bytes
 abbrev pub maxSealed : ℕ
-maxSealed = 4112
+maxSealed = 65552
 
 -- log of a program
 abbrev pub maxLog : ℕ
-maxLog = 1048576
+maxLog = 16777216

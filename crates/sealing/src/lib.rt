@@ -2,10 +2,10 @@
 // specs/ and proofs/. No code.
 
 // The longest associated data, plaintext and sealed part of a sealing, and the longest log of a program.
-pub const MAX_AD: usize = 256;
+pub const MAX_AD: usize = 1024;
 
-pub const MAX_PLAINTEXT: usize = 4096;
+pub const MAX_PLAINTEXT: usize = 65536;
 
-pub const MAX_SEALED: usize = 4112;
+pub const MAX_SEALED: usize = 65552;
 
-pub const MAX_LOG: usize = 1048576;
+pub const MAX_LOG: usize = 16777216;
