@@ -4,7 +4,7 @@
 #include <stdio.h>
 #include <string.h>
 
-static unsigned char stack[65536] __attribute__((aligned(16)));
+static unsigned char stack[4 * KHUMBUSEAL_MAX_SEALED] __attribute__((aligned(16)));
 static unsigned char *before; /* the stack pointer before the call */
 
 static uint8_t key[32], nonce[KHUMBUSEAL_NONCE_SIZE], ad[KHUMBUSEAL_MAX_AD], text[KHUMBUSEAL_MAX_PLAINTEXT], sealed[KHUMBUSEAL_MAX_SEALED], out[KHUMBUSEAL_MAX_SEALED];

@@ -2,13 +2,9 @@
 -- alone decide, so each is computed. The limits stand here by number, since they are the limits' own cases. Assumes nothing.
 use mathlib.Core.Path.{_≡_, refl}
 use mathlib.Core.Bool.{true, false}
-use mathlib.Core.List.{List, []}
-use Prim.Native.Nat.{ℕ}
-use lib.ListN.{replicate}
 use Rattle.answer.specs.First.{first}
 use Rattle.sealing.specs.Limits.{maxAd, maxPlaintext, maxSealed, maxLog}
 use Rattle.sealing.specs.Calls.{isNoKey, isNoNonce, commonRefusals, sealAnswer, openAnswer, logAnswer}
-use Rattle.sealing.specs.Siv as siv
 
 -- rows 4, 5 and 15 of the table
 limits : (maxAd ≡ 1024) × (maxPlaintext ≡ 65536) × (maxSealed ≡ 65552) × (maxLog ≡ 16777216)
@@ -65,19 +61,3 @@ open-order = (refl, refl, refl, refl, refl, refl, refl)
 -- "A log of 16,777,216 bytes is read; for one of 16,777,217 a program prints 15 before any other line"
 logs : (logAnswer 0 ≡ 0) × (logAnswer 16000001 ≡ 0) × (logAnswer 16777216 ≡ 0) × (logAnswer 16777217 ≡ 15)
 logs = (refl, refl, refl, refl)
-
--- each string is asked by its own length: one too long or too short at a time. Only an opening that passes all of it needs the tag
-zeros : ℕ → List ℕ
-zeros n = replicate n 0
-
-seal-strings : (siv.sealAnswer (zeros 15) (zeros 12) (zeros 1024) (zeros 100) 116 ≡ 1) × (siv.sealAnswer (zeros 32) (zeros 13) (zeros 1024) (zeros 100) 116 ≡ 2)
-    × (siv.sealAnswer (zeros 32) (zeros 12) (zeros 1025) (zeros 100) 116 ≡ 4) × (siv.sealAnswer (zeros 32) (zeros 12) [] (zeros 65537) 65553 ≡ 5)
-    × (siv.sealAnswer (zeros 32) (zeros 12) (zeros 1024) (zeros 100) 115 ≡ 7) × (siv.sealAnswer (zeros 32) (zeros 12) (zeros 1024) (zeros 100) 116 ≡ 0)
-unfolding zeros
-seal-strings = (refl, refl, refl, refl, refl, refl)
-
-open-strings : (siv.openAnswer (zeros 15) (zeros 12) (zeros 1024) (zeros 116) 100 ≡ 1) × (siv.openAnswer (zeros 32) (zeros 13) (zeros 1024) (zeros 116) 100 ≡ 2)
-    × (siv.openAnswer (zeros 32) (zeros 12) (zeros 1025) (zeros 116) 100 ≡ 4) × (siv.openAnswer (zeros 32) (zeros 12) (zeros 1024) (zeros 15) 100 ≡ 6)
-    × (siv.openAnswer (zeros 32) (zeros 12) [] (zeros 65553) 65537 ≡ 5) × (siv.openAnswer (zeros 32) (zeros 12) (zeros 1024) (zeros 116) 99 ≡ 7)
-unfolding zeros
-open-strings = (refl, refl, refl, refl, refl, refl)

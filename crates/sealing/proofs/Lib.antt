@@ -6,4 +6,4 @@ pub mod Memory
 pub mod Trips
 pub mod Theorems
 mod Cases
-mod LongestTexts
+mod Strings
