@@ -1,5 +1,5 @@
-/* framelog as a program of its own for any machine: what it takes from the kit's library os, which has it in machine code for x86-64 alone; and, said on
-   standard error at its end, the most memory that it has had, in KiB. */
+/* framelog as a program for any machine: what it takes from the kit's library os, which has it in machine code for
+   x86-64 alone; and, said on standard error at its end, the most memory that it has had, in KiB. */
 #include <errno.h>
 #include <fcntl.h>
 #include <stddef.h>
