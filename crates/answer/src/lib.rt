@@ -1,5 +1,6 @@
 // The answers of document 01, each named once. specs/ names the same numbers for the
 // contracts. Assumes nothing.
+#![tactic(auto)]
 
 // The call did what it was asked.
 pub const DONE: u8 = 0;

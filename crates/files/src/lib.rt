@@ -2,6 +2,7 @@
 // go to standard error. What is read is the system's: no contract can speak of it, and these say only
 // that a count lies within the buffer and is 0 after a failure. Assumes nothing beyond what io, os and
 // libc assume.
+#![tactic(auto)]
 ghost use Rattle.files.specs.Files.{Opened, Read};
 
 // What a key file may have at most, 32 bytes, and a byte more, so that a longer one is told.

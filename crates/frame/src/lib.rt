@@ -1,6 +1,7 @@
 // Frames: what stands at the front of a byte string, and the scan of a log, as framing defines them; kinds and
 // positions in modules of their own. Nothing here needs a key: writing and reading are in the crate message.
 // Assumes nothing.
+#![tactic(auto)]
 use framing::{Front, MARK};
 use octets::words::le16;
 

@@ -1,6 +1,7 @@
 // framelog KEY LOG: reads a log under a key file of 16 or 32 raw bytes, and prints a line for each frame and
 // why it stopped. The log is read in pieces through a window, never whole; whether it is too long is known
 // before the first line. Where a file cannot be read, the reason goes to standard error.
+#![tactic(auto)]
 mod length;
 mod lines;
 mod walk;

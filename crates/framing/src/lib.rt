@@ -1,6 +1,7 @@
 // Frames by document 01, "Frame", as far as no key is needed: the kinds, the positions, what stands at the
 // front of a byte string and the scan of a log. Here stand the types and the numbers; the definitions are in
 // specs/, the theorems about them in proofs/. No code: the crate frame computes them.
+#![tactic(auto)]
 pub mod kind;
 pub mod position;
 

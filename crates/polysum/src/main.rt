@@ -1,6 +1,7 @@
 // polysum KEY FILE: hashes a file in pieces under a key file of 16 raw bytes, and prints the tag in hex.
 // Where a call refuses, it prints the answer; where a file cannot be read, the reason goes to standard
 // error and nothing to standard output.
+#![tactic(auto)]
 use feeding::{Finished, Hash, Route};
 use libc::{STDERR_FILENO, STDOUT_FILENO};
 

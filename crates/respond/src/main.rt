@@ -6,6 +6,7 @@
 // one arm: the row's letters say what its words are (protocol/src/words), its form how its answer is printed
 // (protocol/src/said), and what the arm says are numbers, and bytes that it put into the space. Then the second program
 // (tests/second/lines.py), the requests that are tried (tests/requests) and the stored run (tests/vectors) learn it too.
+#![tactic(auto)]
 mod arithmetic;
 mod frames;
 mod hashing;
