@@ -1,0 +1,14 @@
+-- `word::bmul64` meets its contract. Assumes nothing.
+use Rattle.std.proofs.Common.{rules}
+use Rattle.word.proofs.Bmul.{from_lanes, masks64}
+use Rattle.word.proofs.bmul64.Goals as goal
+
+pub returns : goal.returns
+returns c =
+    let s = c in
+    let z₀ = c.lane64-z0 in
+    let z₁ = c.lane64-z1 in
+    let z₂ = c.lane64-z2 in
+    let z₃ = c.lane64-z3 in
+    from_lanes 16 64 masks64 s.args.x s.args.y s.ranges.x.fits s.ranges.y.fits
+    z₀.result z₁.result z₂.result z₃.result z₀.ensures z₁.ensures z₂.ensures z₃.ensures
