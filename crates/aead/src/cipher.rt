@@ -5,7 +5,7 @@ ghost use Rattle.aead.specs.Cipher.{encrypted, short_cipher, long_cipher, cipher
 use aes::{Schedule128, Schedule256};
 
 // A key's schedule. `long` says which of the two counts; `short_key` and `long_key` leave the other zero.
-#[derive(Drop)]
+#[derive(Clone, Copy)]
 pub struct Cipher {
     pub long: bool,
     pub schedule128: Schedule128,

@@ -8,12 +8,12 @@ pub use rounds::{encrypt128, encrypt256};
 
 // A schedule: a round key of 16 bytes before the first round and one for each round. The two lengths are two types, so that no
 // schedule can claim another number of rounds.
-#[derive(Drop)]
+#[derive(Clone, Copy)]
 pub struct Schedule128 {
     pub bytes: [u8; 176],
 }
 
-#[derive(Drop)]
+#[derive(Clone, Copy)]
 pub struct Schedule256 {
     pub bytes: [u8; 240],
 }

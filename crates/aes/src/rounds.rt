@@ -12,7 +12,7 @@ use crate::{Schedule128, Schedule256};
 use octets::words::{le32, le32_bytes};
 
 // A word for each column of the state, its row 0 in the lowest byte.
-#[derive(Drop)]
+#[derive(Clone, Copy)]
 struct State {
     a: u32,
     b: u32,

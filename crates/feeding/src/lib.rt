@@ -7,20 +7,20 @@ use field::FieldElement;
 pub const POWERS: usize = 4;
 
 // A power of H, and the D value that the R/F formulas take with it.
-#[derive(Drop)]
+#[derive(Clone, Copy)]
 pub struct Power {
     pub h: FieldElement,
     pub d: FieldElement,
 }
 
 // The powers of H, the first one first. Its fields can be altered: a check says whether they belong to H.
-#[derive(Drop)]
+#[derive(Clone, Copy)]
 pub struct ExpandedKey {
     pub powers: [Power; POWERS],
 }
 
 // A key, and the word products spent on it.
-#[derive(Drop)]
+#[derive(Clone, Copy)]
 pub struct Expanded {
     pub key: ExpandedKey,
     pub multiplies: u64,
@@ -28,7 +28,7 @@ pub struct Expanded {
 
 // The routes by which blocks are absorbed. Wide multiplies by 64-bit limbs and Narrow by 32-bit limbs; both read H
 // alone. Rf takes the key's stored powers and D values, and counts its word products.
-#[derive(Drop)]
+#[derive(Clone, Copy)]
 pub enum Route {
     Wide,
     Narrow,
@@ -36,7 +36,7 @@ pub enum Route {
 }
 
 // The hash record. Its first `count` pending bytes wait for the next call; a record can claim any count.
-#[derive(Drop)]
+#[derive(Clone, Copy)]
 pub struct Hash {
     pub key: ExpandedKey,
     pub acc: FieldElement,
@@ -45,7 +45,7 @@ pub struct Hash {
 }
 
 // A call's answer, the record that it made, and the word products that it spent.
-#[derive(Drop)]
+#[derive(Clone, Copy)]
 pub struct Fed {
     pub answer: u8,
     pub hash: Hash,
@@ -53,7 +53,7 @@ pub struct Fed {
 }
 
 // The answer of finish, the tag, and the word products spent.
-#[derive(Drop)]
+#[derive(Clone, Copy)]
 pub struct Finished {
     pub answer: u8,
     pub tag: [u8; 16],
@@ -61,7 +61,7 @@ pub struct Finished {
 }
 
 // The answer of a join, the record of both parts, and the dots that it spent.
-#[derive(Drop)]
+#[derive(Clone, Copy)]
 pub struct Joined {
     pub answer: u8,
     pub hash: Hash,

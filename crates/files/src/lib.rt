@@ -9,7 +9,7 @@ ghost use Rattle.files.specs.Files.{Opened, Read};
 pub const KEY_ROOM: usize = 33;
 
 // How many bytes were read; 0 where the file is at its end, and where it failed.
-#[derive(Drop)]
+#[derive(Clone, Copy)]
 pub struct Got {
     pub failed: bool,
     pub count: usize,

@@ -5,7 +5,7 @@ use files::Got;
 use libc::STDOUT_FILENO;
 
 // How long a log is, as far as it was read: no longer than is needed to see that it is too long.
-#[derive(Drop)]
+#[derive(Clone, Copy)]
 pub(crate) struct Measured {
     pub(crate) failed: bool,
     pub(crate) len: usize,

@@ -10,7 +10,7 @@ use window::Step;
 
 // Where the reader stands: the window holds from..to, and left more bytes are to be read; offset and frames
 // count what was reported.
-#[derive(Drop)]
+#[derive(Clone, Copy)]
 struct Place {
     from: usize,
     to: usize,

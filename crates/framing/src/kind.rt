@@ -7,7 +7,7 @@ pub const TEXT: u8 = 2;
 pub const CHECK_IN: u8 = 3;
 
 // A kind's number, its least and its greatest plaintext, and the step from one length to the next.
-#[derive(Drop)]
+#[derive(Clone, Copy)]
 pub struct Kind {
     pub number: u8,
     pub least: usize,
@@ -40,7 +40,7 @@ pub const TABLE: [Kind; KINDS] = [
 ];
 
 // What the table has for a number.
-#[derive(Drop)]
+#[derive(Clone, Copy)]
 pub enum Found {
     Row(Kind),
     Unknown,

@@ -10,7 +10,7 @@ pub const MARK: u8 = 0x4B;
 
 // What stands at the front of a byte string: a whole frame of this kind that takes so many bytes, or
 // the answer that says why there is none (9 to 12).
-#[derive(Drop)]
+#[derive(Clone, Copy)]
 pub enum Front {
     Whole { kind: u8, taken: usize },
     Stop(u8),

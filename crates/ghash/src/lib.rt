@@ -8,7 +8,7 @@ ghost use Rattle.ghash.specs.Calls.{hashed_of};
 use parts::Ghash;
 
 // The answer of a whole hash, and its 16 bytes.
-#[derive(Drop)]
+#[derive(Clone, Copy)]
 pub struct Hashed {
     pub answer: u8,
     pub tag: [u8; 16],

@@ -6,14 +6,14 @@ use field::FieldElement;
 use polyval::{block, soft};
 
 // POLYVAL's key for GHASH's, and the element.
-#[derive(Drop)]
+#[derive(Clone, Copy)]
 pub struct Ghash {
     pub key: FieldElement,
     pub acc: FieldElement,
 }
 
 // The answer of start, and the record that it made.
-#[derive(Drop)]
+#[derive(Clone, Copy)]
 pub struct Started {
     pub answer: u8,
     pub ghash: Ghash,

@@ -8,7 +8,7 @@ ghost use Rattle.join.specs.Halving.{multiplied, chosen, halved, multiplied_by};
 use field::FieldElement;
 
 // The product so far, the square for the lowest digit of `left`, the digits to go, and the dots spent.
-#[derive(Drop)]
+#[derive(Clone, Copy)]
 pub struct Halving {
     pub product: FieldElement,
     pub square: FieldElement,
@@ -17,7 +17,7 @@ pub struct Halving {
 }
 
 // A product, and the dots spent on it.
-#[derive(Drop)]
+#[derive(Clone, Copy)]
 pub struct Multiplied {
     pub product: FieldElement,
     pub dots: u64,

@@ -31,7 +31,7 @@ pub extern "C" fn khumbuseal_frame_write(
 }
 
 // The case of a front as three numbers.
-#[derive(Drop)]
+#[derive(Clone, Copy)]
 pub struct FrontCells {
     pub answer: u8,
     pub kind: u8,
@@ -68,7 +68,7 @@ pub extern "C" fn khumbuseal_frame_front(s: &[u8], kind: &mut u8, taken: &mut us
 }
 
 // The case of a message as eight numbers.
-#[derive(Drop)]
+#[derive(Clone, Copy)]
 pub struct MessageCells {
     pub answer: u8,
     pub kind: u8,

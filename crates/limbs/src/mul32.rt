@@ -9,7 +9,7 @@ ghost use Rattle.limbs.specs.Limbs32.{tail32, value_of32, product_of32, words32_
 use word::Words;
 
 // A pair's four words of 32 bits, the low one first.
-#[derive(Drop)]
+#[derive(Clone, Copy)]
 struct Quarters {
     w0: u32,
     w1: u32,
@@ -18,7 +18,7 @@ struct Quarters {
 }
 
 // One word of each column of a product of four words by four.
-#[derive(Drop)]
+#[derive(Clone, Copy)]
 struct Columns {
     p0: u32,
     p1: u32,
@@ -30,7 +30,7 @@ struct Columns {
 }
 
 // An unreduced product of 256 bits, the low word first.
-#[derive(Drop)]
+#[derive(Clone, Copy)]
 struct Product32 {
     v0: u32,
     v1: u32,
@@ -43,7 +43,7 @@ struct Product32 {
 }
 
 // One word of each product of a0 + x^32 a1 and b0 + x^32 b1: of the low limbs, of the high, and across.
-#[derive(Drop)]
+#[derive(Clone, Copy)]
 struct Limbs32 {
     low: u32,
     high: u32,
@@ -51,7 +51,7 @@ struct Limbs32 {
 }
 
 // Two words, the low one first.
-#[derive(Drop)]
+#[derive(Clone, Copy)]
 struct Words32 {
     lo: u32,
     hi: u32,

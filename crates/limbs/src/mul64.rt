@@ -9,7 +9,7 @@ ghost use Rattle.limbs.specs.Limbs64.{value_of, product_of, limbs_of, reversed_l
 use word::Words;
 
 // An unreduced product of 256 bits, the low word first.
-#[derive(Drop)]
+#[derive(Clone, Copy)]
 struct Product {
     v0: u64,
     v1: u64,
@@ -18,7 +18,7 @@ struct Product {
 }
 
 // One word of each product of a0 + x^64 a1 and b0 + x^64 b1: of the low limbs, of the high, and across.
-#[derive(Drop)]
+#[derive(Clone, Copy)]
 struct Limbs {
     low: u64,
     high: u64,

@@ -6,7 +6,7 @@ use framing::position::Position;
 // What a reading answers: a position, a text with its length, or a check-in, each with the bytes that the frame
 // took; or the number that says why it was refused. The plaintext of every kind is in the output that the
 // caller lent.
-#[derive(Drop)]
+#[derive(Clone, Copy)]
 pub enum Message {
     Position { position: Position, taken: usize },
     Text { len: usize, taken: usize },
@@ -15,7 +15,7 @@ pub enum Message {
 }
 
 // What a writing answers: 0 and the bytes written, or why it was refused and none.
-#[derive(Drop)]
+#[derive(Clone, Copy)]
 pub struct Written {
     pub answer: u8,
     pub len: usize,

@@ -6,7 +6,7 @@ use feeding::{Finished, Hash, Route};
 use libc::{STDERR_FILENO, STDOUT_FILENO};
 
 // A hash on its way through a file: whether there may be more, and the answer of the last feed.
-#[derive(Drop)]
+#[derive(Clone, Copy)]
 struct Fold {
     more: bool,
     failed: bool,

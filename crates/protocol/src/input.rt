@@ -7,7 +7,7 @@ use libc::STDIN_FILENO;
 
 // Where reading stands. The bytes of the piece from `from` to `to` were not looked at yet. The line has `have` characters so
 // far, one more than its buffer holds where it is too long, and is `whole` with its line end. `over`: there are no more lines.
-#[derive(Drop)]
+#[derive(Clone, Copy)]
 pub struct Reading {
     from: usize,
     to: usize,

@@ -18,7 +18,7 @@ const WAITING: usize = 350000;
 
 // What a call said: which alternative of its request's form it takes, how many bytes of the space it speaks of, and its
 // numbers in their order.
-#[derive(Drop)]
+#[derive(Clone, Copy)]
 pub struct Said {
     pub kind: usize,
     pub bytes: usize,

@@ -9,7 +9,7 @@ use crate::words::Words;
 use crate::{parts, words};
 
 // What a row says: its two letters, and where in the table the letters of its words and the form of its answer begin and end.
-#[derive(Drop)]
+#[derive(Clone, Copy)]
 struct Row {
     group: u8,
     call: u8,
@@ -34,7 +34,7 @@ impl Row {
 }
 
 // A request: the two letters of its row, its words, the place of its answer's form. Where it is none, the first letter is 0.
-#[derive(Drop)]
+#[derive(Clone, Copy)]
 pub struct Request {
     pub group: u8,
     pub call: u8,

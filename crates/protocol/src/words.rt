@@ -24,7 +24,7 @@ const ANY: usize = usize::MAX;
 
 // What the words of a line say. Where it has an output buffer, `room` is the size of it; `good`: the words are those that the
 // letters ask for, and no more.
-#[derive(Drop)]
+#[derive(Clone, Copy)]
 pub struct Words {
     slots: [u64; SLOTS],
     pub(crate) room: usize,
@@ -33,7 +33,7 @@ pub struct Words {
 
 // Reading stands before the space or colon at `at`, or at the line's end; `fill` bytes of the arena are taken; the room that
 // was asked for; `good`: every word so far was what it should be.
-#[derive(Drop)]
+#[derive(Clone, Copy)]
 struct Cursor {
     at: usize,
     fill: usize,
@@ -41,7 +41,7 @@ struct Cursor {
     good: bool,
 }
 
-#[derive(Drop)]
+#[derive(Clone, Copy)]
 struct Slot {
     from: usize,
     to: usize,

@@ -10,7 +10,7 @@ use field::FieldElement;
 use polyval::block;
 
 // The hash key as a field element, and the cipher.
-#[derive(Drop)]
+#[derive(Clone, Copy)]
 pub struct Keys {
     pub hash: FieldElement,
     pub cipher: Cipher,

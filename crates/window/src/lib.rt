@@ -21,7 +21,7 @@ pub fn log_answer(len: usize) -> u8
 
 // What a reader does next: it reports the frame at the front of the bytes that it holds and drops it, or
 // it reads more of the log, or it stops for the reason given, 0 at the log's exact end.
-#[derive(Drop)]
+#[derive(Clone, Copy)]
 pub enum Step {
     Frame { kind: u8, taken: usize },
     More,
