@@ -3,14 +3,10 @@ use mathlib.Core.Path.{refl, sym}
 use Rattle.octets.specs.Xor.{◌⊕◌}
 use Rattle.gf2.specs.Polyval.{x_inv64}
 use Rattle.gf2.proofs.Tail.{tail_low, tail_high}
-use Rattle.limbs.proofs.mul64.times_inverse.Statement.{statement}
-use Rattle.limbs.proofs.mul64.times_inverse.Tie as tie
+use Rattle.limbs.proofs.mul64.times_inverse.Goals as goal
 
-returns : tie.Need-returns
+pub returns : goal.returns
 unfolding ◌⊕◌ x_inv64
 returns c =
     let v = c.args.v in
     λ i. record { lo = sym (tail_low 64 63 62 57 refl refl refl v) i; hi = sym (tail_high 64 63 62 57 refl refl refl v) i }
-
-pub times-inverse-spec : {M : Type 1} → statement M
-times-inverse-spec = tie.close (tie.spec returns)

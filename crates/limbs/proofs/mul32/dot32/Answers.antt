@@ -9,16 +9,12 @@ use Rattle.limbs.specs.Limbs32.{value_of32}
 use Rattle.limbs.proofs.Pair.{product_lt}
 use Rattle.limbs.proofs.Words32.{value_product}
 use borrow.Author.Rules.{rules}
-use Rattle.limbs.proofs.mul32.dot32.Statement.{statement}
-use Rattle.limbs.proofs.mul32.dot32.Tie as tie
+use Rattle.limbs.proofs.mul32.dot32.Goals as goal
 
-returns : tie.Need-returns
+pub returns : goal.returns
 unfolding dot
 returns c =
-    let start = c.before.before in
+    let start = c in
     let small = product_lt start.args.a start.args.b (record { lo = omega arith; hi = omega arith }) (record { lo = omega arith; hi = omega arith }) in
-    c.mont-reduce32.ensures
-    ∙ ap (λ n. words_of (reduce (clmul n x_inv128))) (ap value_of32 c.before.karatsuba-mul32.ensures ∙ value_product (clmul (value start.args.a) (value start.args.b)) small)
-
-pub dot32-spec : {M : Type 1} → statement M
-dot32-spec = tie.close (tie.spec (λ c κs. search rules) (λ c κs. search rules) returns)
+    c.mont_reduce32.ensures
+    ∙ ap (λ n. words_of (reduce (clmul n x_inv128))) (ap value_of32 c.karatsuba_mul32.ensures ∙ value_product (clmul (value start.args.a) (value start.args.b)) small)

@@ -9,16 +9,12 @@ use Rattle.limbs.specs.Limbs64.{value_of}
 use Rattle.limbs.proofs.Pair.{product_lt}
 use Rattle.limbs.proofs.Words64.{value_product}
 use borrow.Author.Rules.{rules}
-use Rattle.limbs.proofs.mul64.dot.Statement.{statement}
-use Rattle.limbs.proofs.mul64.dot.Tie as tie
+use Rattle.limbs.proofs.mul64.dot.Goals as goal
 
-returns : tie.Need-returns
+pub returns : goal.returns
 unfolding dot
 returns c =
-    let start = c.before.before in
+    let start = c in
     let small = product_lt start.args.a start.args.b (record { lo = omega arith; hi = omega arith }) (record { lo = omega arith; hi = omega arith }) in
-    c.mont-reduce.ensures
-    ∙ ap (λ n. words_of (reduce (clmul n x_inv128))) (ap value_of c.before.karatsuba-mul.ensures ∙ value_product (clmul (value start.args.a) (value start.args.b)) small)
-
-pub dot-spec : {M : Type 1} → statement M
-dot-spec = tie.close (tie.spec (λ c κs. search rules) (λ c κs. search rules) returns)
+    c.mont_reduce.ensures
+    ∙ ap (λ n. words_of (reduce (clmul n x_inv128))) (ap value_of c.karatsuba_mul.ensures ∙ value_product (clmul (value start.args.a) (value start.args.b)) small)

@@ -3,14 +3,10 @@ use mathlib.Core.Path.{refl, sym}
 use Rattle.octets.specs.Xor.{◌⊕◌}
 use Rattle.gf2.proofs.Tail.{tail_low, tail_high}
 use Rattle.limbs.specs.Limbs32.{tail32}
-use Rattle.limbs.proofs.mul32.times_inverse32.Statement.{statement}
-use Rattle.limbs.proofs.mul32.times_inverse32.Tie as tie
+use Rattle.limbs.proofs.mul32.times_inverse32.Goals as goal
 
-returns : tie.Need-returns
+pub returns : goal.returns
 unfolding ◌⊕◌ tail32
 returns c =
     let v = c.args.v in
     λ i. record { lo = sym (tail_low 32 31 30 25 refl refl refl v) i; hi = sym (tail_high 32 31 30 25 refl refl refl v) i }
-
-pub times-inverse32-spec : {M : Type 1} → statement M
-times-inverse32-spec = tie.close (tie.spec returns)
