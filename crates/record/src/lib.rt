@@ -79,7 +79,7 @@ pub fn encode(h: Hash) -> [u8; RECORD_SIZE]
 }
 
 // The power that stands at a place.
-fn power_at_lem(b: &[u8], at: usize) -> Power
+fn power_at(b: &[u8], at: usize) -> Power
     requires { at + 32 ≤ length b.now }
     ensures { result ≡ power_in at b.now }
 {
@@ -101,7 +101,7 @@ fn powers_in(b: &[u8]) -> [Power; POWERS]
     let mut powers = [none; POWERS];
     let mut i = 0;
     while i < POWERS {
-        powers[i] = power_at_lem(b, i * 32);
+        powers[i] = power_at(b, i * 32);
         i += 1;
     }
     powers

@@ -1,0 +1,13 @@
+-- `polyval::route::wide` meets its contract. Assumes nothing.
+use mathlib.Core.Path.{ap, ◌∙◌}
+use Rattle.field.specs.Element.{value, element}
+use Rattle.rfc8452.specs.Machine.{run}
+use Rattle.rfc8452.specs.Blocks.{blocks}
+use borrow.Author.Rules.{rules}
+use Rattle.polyval.proofs.route.wide.Goals as goal
+
+pub returns : goal.returns
+returns c =
+    let a = c.args in
+    let made = c.absorb.ensures ∙ ap (λ h. element (run (value h) (value a.held.element) (blocks a.s.now))) c.h_of-h.ensures in
+    λ i. record { element = made i; multiplies = a.held.multiplies }
