@@ -36,7 +36,7 @@ returns-then-second-gt0 c =
 pub returns-then-not-same : goal.returns-then-not-same
 returns-then-not-same c =
     let a = c.args in
-    let alike = (λ i. same_element (sym c.h_of-h.ensures i) (sym c.h_of.ensures i)) ∙ sym c.same.ensures ∙ not-true _ c.if-not-same.true in
+    let alike = (λ i. same_element (sym c.h_of-h.ensures i) (sym c.h_of.ensures i)) ∙ sym c.same.ensures ∙ c.if-not-same.true in
     c.refused-then-not-same.ensures
     ∙ sym (λ i. byTests a.first a.second a.n (le-ltb 0 a.first.count c.if-first-gt0.false i) (le-ltb 0 a.second.count c.if-second-gt0.false i) (alike i))
 
@@ -45,7 +45,7 @@ returns c =
     let start = c in
     let a = start.args in
     let h = h_of a.first.key in
-    let alike = (λ i. same_element (sym c.h_of-h.ensures i) (sym c.h_of.ensures i)) ∙ sym c.same.ensures ∙ not-false _ c.if-not-same.false in
+    let alike = (λ i. same_element (sym c.h_of-h.ensures i) (sym c.h_of.ensures i)) ∙ sym c.same.ensures ∙ c.if-not-same.false in
     let made = c.times-made.ensures ∙ ap (λ x. multiplied_by (value x) a.n (value a.first.acc)) c.h_of-h.ensures in
     let product = value_of (times (value h) a.n (value a.first.acc)) (times_lt (value h) a.n (value a.first.acc) (value_lt a.first.acc (sized (goal.at.returns start).Start))) (ap (λ m. m.product) made) in
     let acc = c.add.ensures ∙ ap (λ x. element (x ⊕ value a.second.acc)) product in
