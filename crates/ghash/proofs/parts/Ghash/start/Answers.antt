@@ -17,8 +17,7 @@ use Rattle.ghash.specs.declared.parts.Started.{Started}
 use Rattle.rfc8452.specs.AppendixA.{reversed, key_for}
 use Rattle.rfc8452.proofs.Reversed.{reversed_lt}
 use borrow.Author.Rules.{rules}
-use Rattle.ghash.proofs.parts.Ghash.start.Statement.{statement}
-use Rattle.ghash.proofs.parts.Ghash.start.Tie as tie
+use Rattle.ghash.proofs.parts.Ghash.start.Goals as goal
 
 -- by the outcome of the test
 abbrev byTest : List ℕ → Bool → Started
@@ -26,30 +25,17 @@ byTest key t =
     cond (eqb (cond (not t) key_length done) done) (record { answer = done; ghash = record { key = element (key_for key); acc = element 0 } })
     (record { answer = cond (not t) key_length done; ghash = record { key = element 0; acc = element 0 } })
 
-returns : tie.Need-returns
+pub returns-then-key-ne16 : goal.returns-then-key-ne16
+returns-then-key-ne16 c =
+    let k = c.args.key.now in
+    sym (ap (byTest k) (ne_eqb (length k) 16 c.if-key-ne16.true))
+
+pub returns : goal.returns
 returns c =
-    let k = c.before.before.args.key.now in
-    sym (ap (byTest k) (ne_eqb (length k) 16 c.if1.true))
-
-block-of-requires : tie.Need-block-of-requires
-block-of-requires c κs = search rules
-
-reverse-requires : tie.Need-reverse-requires
-reverse-requires c κs = search rules
-
-mulx-requires : tie.Need-mulx-requires
-mulx-requires c κs = search rules
-
-returns-2 : tie.Need-returns-2
-returns-2 c =
-    let k = c.before.before.before.before.before.args.key.now in
-    let long : length k ≡ 16 = c.before.before.before.if1.false in
-    let number_is = c.before.before.Block-of.ensures.whole ∙ ap number (take_all 16 k (omega arith)) in
+    let k = c.args.key.now in
+    let long : length k ≡ 16 = c.if-key-ne16.false in
+    let number_is = c.block_of.ensures.whole ∙ ap number (take_all 16 k (omega arith)) in
     let key = c.mulx.ensures
-    ∙ ap (λ n. element (mulx n)) (value_of (reversed (value c.before.before.Block-of.result)) (reversed_lt (value c.before.before.Block-of.result)) c.before.reverse.ensures)
+    ∙ ap (λ n. element (mulx n)) (value_of (reversed (value c.block_of.result)) (reversed_lt (value c.block_of.result)) c.reverse.ensures)
     ∙ ap (λ n. element (mulx (reversed n))) number_is in
     (λ i. record { answer = done; ghash = record { key = key i; acc = element 0 } }) ∙ sym (ap (byTest k) (eq-eqb (length k) 16 long))
-
-pub start_spec : {M : Type 1} → statement M
-start_spec =
-    tie.close (tie.spec returns block-of-requires reverse-requires mulx-requires returns-2)

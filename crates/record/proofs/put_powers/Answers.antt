@@ -1,0 +1,36 @@
+-- `record::put_powers` meets its contract. Assumes nothing.
+use Prim.Native.Nat.{◌-◌, ◌*◌, ◌≤◌}
+use mathlib.Core.Path.{◌≡◌, refl, ap}
+use borrow.Author.Rules.{rules}
+use native.Mathlib.Omega.{arith}
+use lib.ListN.{length, take}
+use lib.Seq.{take_all}
+use Rattle.octets.specs.Places.{Wrote}
+use Rattle.octets.proofs.Places.{wrote_none, then, wrote_as}
+use Rattle.feeding.specs.Key.{power_count}
+use Rattle.record.specs.Bytes.{powers_bytes, key_size}
+use Rattle.record.proofs.Powers.{one_more}
+use Rattle.record.proofs.put_powers.Goals as goal
+
+pub loop-i-init : goal.loop-i-init
+unfolding powers_bytes
+loop-i-init c = (omega arith, search rules, omega arith, refl, refl, wrote_none _ _)
+
+pub loop-i-preserved : goal.loop-i-preserved
+loop-i-preserved c =
+    let turn = c in
+    let l = turn.loop-i in
+    let start = turn in
+    let put = turn.put_power-at in (
+      omega arith,
+      omega arith,
+      omega arith,
+      omega (arith, put.auto.0),
+      omega arith,
+      wrote_as (one_more start.args.powers l.i (omega arith)) (then (omega arith) l.invariant.5 put.ensures.0),
+    )
+
+pub returns : goal.returns
+returns c =
+    let l = c.loop-i in
+    (wrote_as (ap powers_bytes (take_all l.i _ (omega arith))) l.invariant.5, omega arith)
