@@ -28,5 +28,5 @@ returns c =
     let keyed = held in
     let start = keyed in
     let h = start.args.h in
-    let four = then (omega arith) (then (omega arith) (then (omega arith) keyed.put_powers-after_key.ensures.0 (wrote_as held.to_bytes.ensures held.put_block-after_acc.ensures.0)) kept.put_block-after_pending.ensures.0) counted.put_count.ensures in
+    let four = then (omega arith) (then (omega arith) (then (omega arith) keyed.put_powers-after_key.ensures.wrote (wrote_as held.to_bytes.ensures held.put_block-after_acc.ensures.wrote)) kept.put_block-after_pending.ensures.wrote) counted.put_count.ensures in
     whole_record h _ _ _ (powers_length (goal.at.returns start).Start) (pending-length (goal.at.returns start).Start) refl (wrote_as (simp append_assoc) four)

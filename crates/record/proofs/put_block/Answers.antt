@@ -12,4 +12,4 @@ returns c =
     let start = c in
     let l : length start.args.b ≡ 16 = search rules in
     let w = put_wrote (omega arith) c.put.ensures in
-    (w, w.next_is ∙ ap (λ (n : ℕ). start.args.at + n) l)
+    record { wrote = w; value = w.next_is ∙ ap (λ (n : ℕ). start.args.at + n) l }

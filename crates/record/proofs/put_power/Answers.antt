@@ -10,5 +10,5 @@ returns c =
     let second = c in
     let first = second in
     let start = first in
-    let w = then (omega arith) (wrote_as first.to_bytes.ensures first.put_block-next.ensures.0) (wrote_as second.to_bytes-2.ensures second.put_block.ensures.0) in
-    (wrote_as (one_power start.args.p) w, omega arith)
+    let w = then (omega arith) (wrote_as first.to_bytes.ensures first.put_block-next.ensures.wrote) (wrote_as second.to_bytes-2.ensures second.put_block.ensures.wrote) in
+    record { wrote = wrote_as (one_power start.args.p) w; value = omega arith }

@@ -25,12 +25,12 @@ loop-i-preserved c =
       omega arith,
       omega arith,
       omega arith,
-      omega (arith, put.auto.0),
+      omega (arith, put.auto.out),
       omega arith,
-      wrote_as (one_more start.args.powers l.i (omega arith)) (then (omega arith) l.invariant.5 put.ensures.0),
+      wrote_as (one_more start.args.powers l.i (omega arith)) (then (omega arith) l.invariant.5 put.ensures.wrote),
     )
 
 pub returns : goal.returns
 returns c =
     let l = c.loop-i in
-    (wrote_as (ap powers_bytes (take_all l.i _ (omega arith))) l.invariant.5, omega arith)
+    record { wrote = wrote_as (ap powers_bytes (take_all l.i _ (omega arith))) l.invariant.5; value = omega arith }
