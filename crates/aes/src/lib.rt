@@ -1,5 +1,6 @@
 // AES encryption with keys of 16 and 32 bytes, FIPS 197; no decryption. Blocks, keys and schedules are bytes in the order of the input.
 #![tactic(auto)]
+
 mod expansion;
 mod rounds;
 

@@ -1,5 +1,6 @@
 // The two tables that AES reads, with what they are. A caller binds a table once and lends it: a constant is built anew at each use.
 #![tactic(auto)]
+
 ghost use Rattle.std.specs.Prelude.{◌≡◌};
 ghost use Rattle.fips197.specs.Sbox.{sbox_table};
 ghost use Rattle.aes_tables.specs.Words.{word_table};

@@ -5,12 +5,8 @@ use Rattle.gf2.specs.Carryless.{clmul_n, clmul}
 use Rattle.gf2.specs.Remainder.{times_x, remainder_n, remainder}
 use Rattle.fips197.specs.Field.{gmul, powers, inverse}
 use Rattle.fips197.specs.Sbox.{affine, sbox, sbox_table}
-use Rattle.aes_tables.proofs.sbox_table.Statement.{statement}
-use Rattle.aes_tables.proofs.sbox_table.Tie as tie
+use Rattle.aes_tables.proofs.sbox_table.Goals as goal
 
-returns : tie.Need-returns
+pub returns : goal.returns
 unfolding sbox_table sbox affine inverse powers gmul remainder remainder_n times_x clmul clmul_n ◌⊕◌
 returns c = refl
-
-pub sbox-table-spec : {M : Type 1} → statement M
-sbox-table-spec = tie.close (tie.spec returns)

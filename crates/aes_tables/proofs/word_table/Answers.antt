@@ -9,12 +9,8 @@ use Rattle.fips197.specs.Field.{gmul, powers, inverse}
 use Rattle.fips197.specs.Sbox.{affine, sbox, sbox_table}
 use Rattle.aes_tables.specs.Words.{mixed0}
 use Rattle.aes_tables.proofs.Entry.{words_of_lem}
-use Rattle.aes_tables.proofs.word_table.Statement.{statement}
-use Rattle.aes_tables.proofs.word_table.Tie as tie
+use Rattle.aes_tables.proofs.word_table.Goals as goal
 
-returns : tie.Need-returns
+pub returns : goal.returns
 unfolding mixed0 number sbox_table sbox affine inverse powers gmul remainder remainder_n times_x clmul clmul_n ◌⊕◌
 returns c = words_of_lem _ refl refl
-
-pub word-table-spec : {M : Type 1} → statement M
-word-table-spec = tie.close (tie.spec returns)

@@ -1,37 +1,22 @@
 -- `aes::rounds::column` meets its contract. Assumes nothing.
 use mathlib.Core.Path.{◌∙◌}
 use Prim.Native.Nat.{ℕ, ◌/◌, ◌%◌, ◌^◌}
-use borrow.Author.Rules.{rules}
 use Rattle.octets.specs.Numbers.{bytes_of}
 use Rattle.octets.specs.Xor.{◌⊕◌}
 use Rattle.fips197.proofs.Sbox.{sbox_lt}
 use Rattle.fips197.specs.Cipher.{mix_column}
 use Rattle.fips197.specs.Sbox.{sbox}
 use Rattle.aes.proofs.Words.{row0, row1, row2, row3, turned, column_law}
-use Rattle.aes.proofs.rounds.column.Statement.{statement}
-use Rattle.aes.proofs.rounds.column.Tie as tie
+use Rattle.aes.proofs.rounds.column.Goals as goal
 
-returns : tie.Need-returns
+pub returns : goal.returns
 unfolding ◌⊕◌
 returns c =
-    let third = c.before in
-    let second = third.before in
-    let first = second.before in
-    let a = first.before.args in
+    let a = c.args in
     let x : ℕ = a.a % 256 in
     let y : ℕ = a.b / 2 ^ 8 % 256 in
     let z : ℕ = a.c / 2 ^ 16 % 256 in
     let t : ℕ = a.d / 2 ^ 24 % 256 in
-    (λ i. bytes_of 4 (first.lookup.ensures i ⊕ turned 24 8 (second.lookup2.ensures i) ⊕ turned 16 16 (third.lookup3.ensures i) ⊕ turned 8 24 (c.lookup4.ensures i)))
+    (λ i. bytes_of 4 (c.lookup-p.ensures i ⊕ turned 24 8 (c.lookup-q.ensures i) ⊕ turned 16 16 (c.lookup-r.ensures i) ⊕ turned 8 24 (c.lookup-s.ensures i)))
     ∙ column_law (sbox x) (sbox y) (sbox z) (sbox t) (sbox_lt x) (sbox_lt y) (sbox_lt z) (sbox_lt t)
     ∙ (λ i. mix_column (sbox (row0 a.a i)) (sbox (row1 a.b i)) (sbox (row2 a.c i)) (sbox (row3 a.d i)))
-
-pub column-spec : {M : Type 1} → statement M
-column-spec =
-    tie.close
-    (tie.spec
-    (λ c κs. search rules)
-    (λ c κs. search rules)
-    (λ c κs. search rules)
-    (λ c κs. search rules)
-    returns)

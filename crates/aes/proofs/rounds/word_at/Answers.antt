@@ -1,0 +1,13 @@
+-- `aes::rounds::word_at` meets its contract. Assumes nothing.
+use mathlib.Core.List.{[], ◌∷◌}
+use mathlib.Core.Path.{sym, ◌∙◌}
+use Prim.Native.Nat.{◌+◌}
+use native.Mathlib.Nat.{add-zero}
+use lib.ListN.{get_or}
+use Rattle.aes.proofs.rounds.word_at.Goals as goal
+
+pub returns : goal.returns
+returns c =
+    let a = c.args in
+    let s = a.s.now in
+    c.le32.ensures.back ∙ (λ k. get_or s (sym (add-zero a.i) k) 0 ∷ get_or s (a.i + 1) 0 ∷ get_or s (a.i + 2) 0 ∷ get_or s (a.i + 3) 0 ∷ [])
