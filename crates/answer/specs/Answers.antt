@@ -37,8 +37,8 @@ abbrev pub tag_differs : ℕ
 tag_differs = 8
 
 -- frame's first byte not 0x4B
-abbrev pub not_aframe : ℕ
-not_aframe = 9
+abbrev pub not_a_frame : ℕ
+not_a_frame = 9
 
 -- unknown kind
 abbrev pub unknown_kind : ℕ

@@ -7,7 +7,7 @@ use native.Mathlib.Omega.{arith}
 use lib.IntN.{pos, neg_ℤ}
 use lib.ListN.{length, replicate}
 use Rattle.octets.specs.Numbers.{number, bytes_of}
-use Rattle.answer.specs.Answers.{not_aframe, unknown_kind, length_for_kind, cut_short}
+use Rattle.answer.specs.Answers.{not_a_frame, unknown_kind, length_for_kind, cut_short}
 use Rattle.framing.specs.declared.Front.TheVariants.{Whole, Stop}
 use Rattle.framing.specs.Position.{in_range, position_of, position_bytes}
 use Rattle.framing.specs.Kinds.{position, text, check_in, table, row_of, is_known, is_allowed}
@@ -38,7 +38,7 @@ unfolding is_known is_allowed row_of table
 text_16 rest = sym (wrong_length (mark ∷ text ∷ 16 ∷ 0 ∷ rest) (omega arith) refl (omega arith) refl (omega arith) refl)
 
 -- the order 9, 10, 11, 12: a wrong mark before an unknown kind, that before a length, each whatever follows. Orders has the same on few bytes
-pub wrong_mark_first : (rest : List ℕ) → front_of (0x4A ∷ rest) ≡ Stop not_aframe
+pub wrong_mark_first : (rest : List ℕ) → front_of (0x4A ∷ rest) ≡ Stop not_a_frame
 wrong_mark_first rest = sym (wrong_mark (0x4A ∷ rest) (omega arith) (λ e. omega arith))
 
 pub kind_4_second : (rest : List ℕ) → front_of (mark ∷ 4 ∷ rest) ≡ Stop unknown_kind

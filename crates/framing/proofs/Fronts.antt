@@ -7,7 +7,7 @@ use native.Mathlib.Omega.{arith}
 use borrow.Author.Tests.{lt-ltb, le-ltb, eq-eqb, ne_eqb, eqb-false}
 use lib.Dec.{eqb}
 use lib.ListN.{length, get_or}
-use Rattle.answer.specs.Answers.{done, not_aframe, unknown_kind, length_for_kind, cut_short}
+use Rattle.answer.specs.Answers.{done, not_a_frame, unknown_kind, length_for_kind, cut_short}
 use Rattle.answer.proofs.First.{Between, between}
 use Rattle.framing.specs.declared.Front.TheVariants.{Whole, Stop}
 use Rattle.framing.specs.Kinds.{is_known, is_allowed}
@@ -25,9 +25,9 @@ module _ (s : List ℕ) where
   no_mark h = stopped s cut_short (simp (lt-ltb _ _ h)) (omega arith)
 
   module _ (h1 : 1 ≤ length s) where
-    pub wrong_mark : (get_or s 0 0 ≡ mark → ⊥) → Stop not_aframe ≡ front_of s
+    pub wrong_mark : (get_or s 0 0 ≡ mark → ⊥) → Stop not_a_frame ≡ front_of s
     unfolding checks
-    wrong_mark h = stopped s not_aframe (simp (le-ltb _ _ h1, ne_eqb _ _ h)) (omega arith)
+    wrong_mark h = stopped s not_a_frame (simp (le-ltb _ _ h1, ne_eqb _ _ h)) (omega arith)
 
     module _ (m : get_or s 0 0 ≡ mark) where
       pub no_kind : length s < 2 → Stop cut_short ≡ front_of s
@@ -66,9 +66,9 @@ told n k t r e = by (eqb n done) refl e
     by false q p = (cc, eqb-false n 0 q)
 
 -- where no frame stands, the reason is what the checks say, and is 9 to 12
-pub reason : (s : List ℕ) (r : ℕ) → front_of s ≡ Stop r → (stop_of s ≡ r) × (not_aframe ≤ r) × (r ≤ cut_short)
+pub reason : (s : List ℕ) (r : ℕ) → front_of s ≡ Stop r → (stop_of s ≡ r) × (not_a_frame ≤ r) × (r ≤ cut_short)
 unfolding front_of checks Between
 reason s r e =
     let t = told (stop_of s) (kind_of s) (taken_of s) r e in
-    let b = between not_aframe cut_short (checks s) (omega arith) t.1 in
+    let b = between not_a_frame cut_short (checks s) (omega arith) t.1 in
     (t.0, omega arith, omega arith)

@@ -12,7 +12,7 @@ use Rattle.framing.specs.declared.Front.{Front}
 use Rattle.framing.specs.declared.Front.TheVariants.{Whole, Stop}
 use Rattle.framing.specs.Front.{front_of}
 use Rattle.framing.specs.Scan.{Scan, none, ahead, scan_of, Scanned}
-use Rattle.answer.specs.Answers.{not_aframe, cut_short}
+use Rattle.answer.specs.Answers.{not_a_frame, cut_short}
 use Rattle.framing.proofs.Fronts.{reason}
 use Rattle.framing.proofs.Whole.{is_whole, whole_is, whole_bounds, whole_before, whole_alone}
 use Rattle.framing.proofs.Scans.{scan_end, scan_stop, scan_whole}
@@ -114,10 +114,10 @@ pub found : (log : List ℕ) → Found log (scan_of log)
 found log = found_in (length log) log (omega arith)
 
 -- the stop reason is 0, and then every byte is in the prefix, or 9 to 12
-pub stop_numbers : (log : List ℕ) → (((scan_of log).stop ≡ 0) × ((scan_of log).taken ≡ length log)) ⊎ ((not_aframe ≤ (scan_of log).stop) × ((scan_of log).stop ≤ cut_short))
+pub stop_numbers : (log : List ℕ) → (((scan_of log).stop ≡ 0) × ((scan_of log).taken ≡ length log)) ⊎ ((not_a_frame ≤ (scan_of log).stop) × ((scan_of log).stop ≤ cut_short))
 stop_numbers log = by (found log).reason
   where
-    by : Stops (drop (scan_of log).taken log) (scan_of log).stop → (((scan_of log).stop ≡ 0) × ((scan_of log).taken ≡ length log)) ⊎ ((not_aframe ≤ (scan_of log).stop) × ((scan_of log).stop ≤ cut_short))
+    by : Stops (drop (scan_of log).taken log) (scan_of log).stop → (((scan_of log).stop ≡ 0) × ((scan_of log).taken ≡ length log)) ⊎ ((not_a_frame ≤ (scan_of log).stop) × ((scan_of log).stop ≤ cut_short))
     by (inl (e, z)) = inl (z, let l : length log - (scan_of log).taken ≡ 0 = rw length-drop at (ap length e) in let i = (found log).inside in omega arith)
     by (inr (h, e)) = let r = reason (drop (scan_of log).taken log) (scan_of log).stop e in inr (r.1, r.2)
 

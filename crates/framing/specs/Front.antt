@@ -1,7 +1,7 @@
 -- What stands at the front of a byte string: a whole frame, or the first reason why there is none (document 01, "Frame"
 -- and the order 9, 10, 11, 12). Assumes nothing.
 use Rattle.std.specs.Prelude.{ℕ, ◌+◌, ◌*◌, not, cond, List, [], ◌∷◌, length, get_or, eqb, ltb}
-use Rattle.answer.specs.Answers.{done, not_aframe, unknown_kind, length_for_kind, cut_short}
+use Rattle.answer.specs.Answers.{done, not_a_frame, unknown_kind, length_for_kind, cut_short}
 use Rattle.answer.specs.First.{Refusal, ◌⇒◌, first}
 use Rattle.framing.specs.declared.Front.{Front}
 use Rattle.framing.specs.declared.Front.TheVariants.{Whole, Stop}
@@ -30,7 +30,7 @@ lacks n s = ltb (length s) n ⇒ cut_short
 -- the checks of a frame's front, in document 01's order
 unfoldable pub checks : List ℕ → List Refusal
 checks s =
-    lacks 1 s ∷ not (eqb (get_or s 0 0) mark) ⇒ not_aframe ∷ lacks 2 s ∷ not (is_known (kind_of s)) ⇒ unknown_kind ∷ lacks 4 s
+    lacks 1 s ∷ not (eqb (get_or s 0 0) mark) ⇒ not_a_frame ∷ lacks 2 s ∷ not (is_known (kind_of s)) ⇒ unknown_kind ∷ lacks 4 s
     ∷ not (is_allowed (kind_of s) (sealed_len s)) ⇒ length_for_kind ∷ lacks (taken_of s) s ∷ []
 
 -- why no whole frame stands at the front of s; 0 where one does

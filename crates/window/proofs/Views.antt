@@ -7,7 +7,7 @@ use native.Mathlib.Omega.{arith}
 use borrow.Author.Tests.{ltb-true, ltb-false, eqb-true, eqb-false}
 use lib.Dec.{ltb, eqb}
 use lib.ListN.{length, get_or, length-append, get_or-append}
-use Rattle.answer.specs.Answers.{cut_short, not_aframe, unknown_kind, length_for_kind}
+use Rattle.answer.specs.Answers.{cut_short, not_a_frame, unknown_kind, length_for_kind}
 use Rattle.framing.specs.declared.Front.TheVariants.{Stop}
 use Rattle.framing.specs.Kinds.{is_known, is_allowed, longest_frame}
 use Rattle.framing.specs.Front.{mark, kind_of, sealed_len, taken_of, front_of}
@@ -63,7 +63,7 @@ module _ (s : List ℕ) where
   by_mark : (b : Bool) → eqb (get_or s 0 0) mark ≡ b → 1 ≤ length s → View s
   by_mark true e h1 = by_mark_end (ltb (length s) 2) refl h1 (eqb-true (get_or s 0 0) mark e)
   by_mark false e h1 =
-      wrong not_aframe (λ z. absurd (omega arith)) (λ t.
+      wrong not_a_frame (λ z. absurd (omega arith)) (λ t.
       sym (wrong_mark (s ++ t) (longer s t 1 h1) (λ q. eqb-false (get_or s 0 0) mark e (sym (byte s t 0 (omega arith)) ∙ q))))
 
   by_start : (b : Bool) → ltb (length s) 1 ≡ b → View s
