@@ -1,6 +1,7 @@
 // Byte strings: copied, put at a place, combined and compared. Words of bytes are in the module words. What
 // they mean is in specs/. Assumes nothing.
 #![tactic(auto)]
+
 pub mod words;
 
 ghost use Rattle.std.specs.Prelude.{◌≡◌, min};

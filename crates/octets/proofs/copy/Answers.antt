@@ -1,10 +1,7 @@
 -- `octets::copy` meets its contract: after i turns the first i bytes are src's. Assumes nothing.
-use Prim.Native.Nat.{◌-◌, ◌≤◌}
-use mathlib.Core.Path.{◌≡◌, refl, ◌∙◌}
-use mathlib.Core.List.{◌++◌}
+use mathlib.Core.Path.{refl, ◌∙◌}
 use native.Mathlib.Omega.{arith}
 use borrow.Author.Rules.{rules}
-use lib.ListN.{length, take, drop}
 use Rattle.octets.proofs.Copies.{copy_turn, copy_reached}
 use Rattle.octets.proofs.copy.Goals as goal
 

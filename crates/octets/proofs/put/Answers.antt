@@ -1,7 +1,6 @@
 -- `octets::put` meets its contract: with room, s is copied over the part that starts at the place. Assumes nothing.
 use mathlib.Core.Path.{refl}
 use native.Mathlib.Omega.{arith}
-use borrow.Author.Rules.{rules}
 use Rattle.octets.proofs.Copies.{copied_at}
 use Rattle.octets.proofs.Places.{wrote_put, no_room_lem}
 use Rattle.octets.proofs.put.Goals as goal

@@ -1,11 +1,8 @@
 -- `octets::same_tag` meets its contract: after i turns no difference is gathered exactly where the first i bytes are the same.
 -- Assumes nothing.
-use Prim.Native.Nat.{◌-◌, ◌≤◌}
-use mathlib.Core.Path.{◌≡◌, ◌∙◌}
+use mathlib.Core.Path.{◌∙◌}
 use native.Mathlib.Omega.{arith}
 use borrow.Author.Rules.{rules}
-use lib.Dec.{eqb}
-use lib.ListN.{length, take}
 use lib.Seq.{take_all}
 use Rattle.octets.specs.Strings.{same_bytes}
 use Rattle.octets.proofs.Same.{start, turn}

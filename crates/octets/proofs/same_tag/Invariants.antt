@@ -1,14 +1,10 @@
 -- `octets::same_tag` meets its contract: after i turns no difference is gathered exactly where the first i bytes are the same.
 -- Assumes nothing.
 use Prim.Native.Nat.{◌-◌, ◌≤◌}
-use mathlib.Core.Path.{◌≡◌, ◌∙◌}
-use native.Mathlib.Omega.{arith}
-use borrow.Author.Rules.{rules}
+use mathlib.Core.Path.{◌≡◌}
 use lib.Dec.{eqb}
 use lib.ListN.{length, take}
-use lib.Seq.{take_all}
 use Rattle.octets.specs.Strings.{same_bytes}
-use Rattle.octets.proofs.Same.{start, turn}
 use Rattle.octets.proofs.same_tag.Given as goal
 
 abbrev pub invariant-loop-i : goal.invariant-loop-i

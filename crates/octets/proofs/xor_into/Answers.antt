@@ -1,11 +1,8 @@
 -- `octets::xor_into` meets its contract: after i turns the first i bytes of the pad are added. Assumes nothing.
-use Prim.Native.Nat.{◌-◌, ◌≤◌}
-use mathlib.Core.Path.{◌≡◌, refl, sym, ◌∙◌}
+use mathlib.Core.Path.{refl, sym, ◌∙◌}
 use native.Mathlib.Omega.{arith}
 use borrow.Author.Rules.{rules}
-use lib.ListN.{length, take}
 use Rattle.octets.specs.Xor.{◌⊕◌}
-use Rattle.octets.specs.Strings.{xor_bytes}
 use Rattle.octets.proofs.XorBytes.{xor_nil, xor_turn, xor_reached}
 use Rattle.octets.proofs.xor_into.Goals as goal
 

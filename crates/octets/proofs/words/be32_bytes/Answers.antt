@@ -1,7 +1,6 @@
 -- `octets::words::be32_bytes` meets its contract. Assumes nothing.
 use mathlib.Core.Path.{ap}
 use mathlib.Core.List.{reverse}
-use borrow.Author.Rules.{rules}
 use Rattle.octets.proofs.WordBytes.{cells_of}
 use Rattle.octets.proofs.words.be32_bytes.Goals as goal
 

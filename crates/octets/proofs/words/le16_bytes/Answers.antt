@@ -1,5 +1,4 @@
 -- `octets::words::le16_bytes` meets its contract. Assumes nothing.
-use borrow.Author.Rules.{rules}
 use Rattle.octets.proofs.WordBytes.{bytes16}
 use Rattle.octets.proofs.words.le16_bytes.Goals as goal
 

@@ -1,5 +1,4 @@
 -- `octets::words::le32_bytes` meets its contract. Assumes nothing.
-use borrow.Author.Rules.{rules}
 use Rattle.octets.proofs.WordBytes.{bytes32}
 use Rattle.octets.proofs.words.le32_bytes.Goals as goal
 

@@ -1,5 +1,4 @@
 -- `octets::words::le64` meets its contract. Assumes nothing.
-use borrow.Author.Rules.{rules}
 use Rattle.octets.proofs.WordBytes.{joined_++}
 use Rattle.octets.proofs.words.le64.Goals as goal
 

@@ -1,5 +1,4 @@
 -- `octets::words::le64_bytes` meets its contract. Assumes nothing.
-use borrow.Author.Rules.{rules}
 use Rattle.octets.proofs.WordBytes.{bytes64}
 use Rattle.octets.proofs.words.le64_bytes.Goals as goal
 
