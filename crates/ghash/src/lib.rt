@@ -1,5 +1,6 @@
 // GHASH (NIST SP 800-38D) by way of POLYVAL (RFC 8452, appendix A).
 #![tactic(auto)]
+
 pub mod parts;
 
 ghost use Rattle.std.specs.Prelude.{◌≡◌};

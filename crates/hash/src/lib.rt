@@ -1,6 +1,7 @@
 // POLYVAL over a message in parts: calls on the hash record, which holds the key, the element and the bytes that wait
 // for the rest of their block (lib.rs, soft.rs). Every call answers for every record, altered ones too.
 #![tactic(auto)]
+
 pub mod feeds;
 pub mod finishing;
 pub mod records;

@@ -1,5 +1,6 @@
 // Joining the hashes of two parts of a message, without their bytes.
 #![tactic(auto)]
+
 pub mod halving;
 
 ghost use Rattle.std.specs.Prelude.{◌≡◌};

@@ -1,6 +1,7 @@
 // A hash record as bytes, for callers in other languages, both ways. Any bytes are a record: every call
 // on it answers. Assumes nothing.
 #![tactic(auto)]
+
 ghost use Rattle.std.specs.Prelude.{◌≡◌, [], ◌∷◌, ◌+◌, ◌*◌, ◌≤◌, length};
 ghost use Rattle.octets.specs.Numbers.{bytes_of};
 ghost use Rattle.octets.specs.Places.{Wrote};

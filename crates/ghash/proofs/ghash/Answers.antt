@@ -6,7 +6,6 @@ use borrow.Author.Tests.{eq-eqb, ne_eqb}
 use Rattle.answer.specs.Answers.{done}
 use Rattle.ghash.specs.Calls.{fed_of, ghash_tag_of}
 use Rattle.ghash.proofs.Call.{start_refused, not_whole, hashed}
-use borrow.Author.Rules.{rules}
 use Rattle.ghash.proofs.ghash.Goals as goal
 
 pub returns-then-started-ne-DONE : goal.returns-then-started-ne-DONE

@@ -1,6 +1,5 @@
 -- `join::join` meets its contract. Assumes nothing.
-use Rattle.std.proofs.Common.{ℕ, Bool, cond, not, ltb, replicate, sym, ap, ◌∙◌, arith, rules, le-ltb, lt-ltb}
-use borrow.Author.Tests.{not-true, not-false}
+use Rattle.std.proofs.Common.{ℕ, Bool, cond, not, ltb, replicate, sym, ap, ◌∙◌, arith, le-ltb, lt-ltb}
 use Rattle.answer.specs.Answers.{done, bad_record}
 use Rattle.octets.specs.Xor.{◌⊕◌}
 use Rattle.field.specs.Element.{value, element}

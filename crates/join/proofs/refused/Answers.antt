@@ -1,5 +1,4 @@
 -- `join::refused` meets its contract. Assumes nothing.
-use Rattle.std.proofs.Common.{rules}
 use Rattle.join.proofs.refused.Goals as goal
 
 pub returns : goal.returns

@@ -1,5 +1,4 @@
 -- `record::power_at` meets its contract. Assumes nothing.
-use borrow.Author.Rules.{rules}
 use Rattle.record.proofs.power_at.Goals as goal
 
 pub returns : goal.returns

@@ -1,13 +1,12 @@
 -- `record::powers_in` meets its contract. Assumes nothing.
 use Rattle.record.proofs.Whole.{stored_more}
-use Prim.Native.Nat.{ℕ, ◌-◌, ◌≤◌}
+use Prim.Native.Nat.{ℕ}
 use mathlib.Core.Path.{◌≡◌, refl, sym, ap, ◌∙◌}
-use borrow.Author.Rules.{rules}
 use native.Mathlib.Omega.{arith}
-use lib.ListN.{length, take, length-set}
+use lib.ListN.{length-set}
 use lib.Seq.{take_all}
 use Rattle.feeding.specs.Key.{power_count}
-use Rattle.record.specs.Bytes.{powers_at, key_size}
+use Rattle.record.specs.Bytes.{powers_at}
 use Rattle.record.proofs.powers_in.Goals as goal
 
 pub loop-i-init : goal.loop-i-init

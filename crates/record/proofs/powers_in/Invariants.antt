@@ -1,11 +1,7 @@
 -- `record::powers_in` meets its contract. Assumes nothing.
-use Rattle.record.proofs.Whole.{stored_more}
-use Prim.Native.Nat.{ℕ, ◌-◌, ◌≤◌}
-use mathlib.Core.Path.{◌≡◌, refl, sym, ap, ◌∙◌}
-use borrow.Author.Rules.{rules}
-use native.Mathlib.Omega.{arith}
-use lib.ListN.{length, take, length-set}
-use lib.Seq.{take_all}
+use Prim.Native.Nat.{◌-◌, ◌≤◌}
+use mathlib.Core.Path.{◌≡◌}
+use lib.ListN.{length, take}
 use Rattle.feeding.specs.Key.{power_count}
 use Rattle.record.specs.Bytes.{powers_at, key_size}
 use Rattle.record.proofs.powers_in.Given as goal

@@ -4,7 +4,6 @@ use native.Mathlib.Omega.{arith}
 use lib.ListN.{length}
 use Rattle.octets.proofs.Numbers.{bytes_of-length}
 use Rattle.octets.proofs.Places.{wrote_as, put_wrote}
-use borrow.Author.Rules.{rules}
 use Rattle.record.proofs.put_count.Goals as goal
 
 pub returns : goal.returns

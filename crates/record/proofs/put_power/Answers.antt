@@ -2,7 +2,6 @@
 use native.Mathlib.Omega.{arith}
 use Rattle.octets.proofs.Places.{then, wrote_as}
 use Rattle.record.proofs.Powers.{one_power}
-use borrow.Author.Rules.{rules}
 use Rattle.record.proofs.put_power.Goals as goal
 
 pub returns : goal.returns

@@ -1,14 +1,10 @@
 -- `record::put_powers` meets its contract. Assumes nothing.
-use Prim.Native.Nat.{◌-◌, ◌*◌, ◌≤◌}
-use mathlib.Core.Path.{◌≡◌, refl, ap}
+use mathlib.Core.Path.{refl, ap}
 use borrow.Author.Rules.{rules}
 use native.Mathlib.Omega.{arith}
-use lib.ListN.{length, take}
 use lib.Seq.{take_all}
-use Rattle.octets.specs.Places.{Wrote}
 use Rattle.octets.proofs.Places.{wrote_none, then, wrote_as}
-use Rattle.feeding.specs.Key.{power_count}
-use Rattle.record.specs.Bytes.{powers_bytes, key_size}
+use Rattle.record.specs.Bytes.{powers_bytes}
 use Rattle.record.proofs.Powers.{one_more}
 use Rattle.record.proofs.put_powers.Goals as goal
 

@@ -1,5 +1,4 @@
 -- `word::bmul32` meets its contract. Assumes nothing.
-use Rattle.std.proofs.Common.{rules}
 use Rattle.word.proofs.Bmul.{from_lanes, masks32}
 use Rattle.word.proofs.bmul32.Goals as goal
 

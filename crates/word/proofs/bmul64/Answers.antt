@@ -1,5 +1,4 @@
 -- `word::bmul64` meets its contract. Assumes nothing.
-use Rattle.std.proofs.Common.{rules}
 use Rattle.word.proofs.Bmul.{from_lanes, masks64}
 use Rattle.word.proofs.bmul64.Goals as goal
 

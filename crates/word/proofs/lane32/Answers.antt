@@ -1,5 +1,4 @@
 -- `word::lane32` meets its contract. Assumes nothing.
-use Rattle.std.proofs.Common.{rules}
 use Rattle.octets.specs.Xor.{◌⊕◌}
 use Rattle.word.proofs.lane32.Goals as goal
 

@@ -1,5 +1,4 @@
 -- `word::product64` meets its contract. Assumes nothing.
-use Rattle.std.proofs.Common.{rules}
 use Rattle.word.proofs.product64.Goals as goal
 
 pub returns : goal.returns

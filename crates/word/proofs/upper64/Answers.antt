@@ -1,5 +1,5 @@
 -- `word::upper64` meets its contract: Reverse's `upper_half` at 64 bits. Assumes nothing.
-use Rattle.std.proofs.Common.{◌/◌, ◌%◌, ◌^◌, sym, ap, ◌∙◌, ap₂, rules}
+use Rattle.std.proofs.Common.{◌/◌, ◌%◌, ◌^◌, sym, ap, ◌∙◌, ap₂}
 use Rattle.gf2.specs.Carryless.{clmul, rev}
 use Rattle.gf2.proofs.Reverse.{upper_half}
 use Rattle.word.proofs.upper64.Goals as goal

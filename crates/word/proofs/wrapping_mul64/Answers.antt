@@ -1,5 +1,5 @@
 -- `word::wrapping_mul64` meets its contract. Assumes nothing.
-use Rattle.std.proofs.Common.{◌≡◌, ℕ, ◌+◌, ◌*◌, ◌/◌, ◌%◌, ◌^◌, ◌<◌, ap, ◌∙◌, shr_lt, w64, Fits, rules}
+use Rattle.std.proofs.Common.{◌≡◌, ℕ, ◌+◌, ◌*◌, ◌/◌, ◌%◌, ◌^◌, ◌<◌, ap, ◌∙◌, shr_lt, w64, Fits}
 use lib.Bits.{bit_and, and_mask, mask_lt}
 use mir.Facts.{Fits-bits}
 use Rattle.word.proofs.Wrap.{box, mul_lt_pow}

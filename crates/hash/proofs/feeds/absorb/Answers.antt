@@ -5,7 +5,6 @@ use Rattle.rfc8452.specs.Blocks.{blocks}
 use Rattle.feeding.specs.Formulas.{in_groups}
 use Rattle.feeding.specs.Routes.{absorb_on}
 use Rattle.feeding.specs.Record.{holding}
-use borrow.Author.Rules.{rules}
 use Rattle.hash.proofs.feeds.absorb.Goals as goal
 
 pub returns : goal.returns

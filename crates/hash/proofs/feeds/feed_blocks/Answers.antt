@@ -8,7 +8,6 @@ use borrow.Author.Tests.{lt-ltb, le-ltb, eq-eqb, ne_eqb}
 use Rattle.answer.specs.Answers.{done, bad_record, not_whole_blocks}
 use Rattle.feeding.specs.Record.{fed_or}
 use Rattle.feeding.specs.Calls.{absorbed}
-use borrow.Author.Rules.{rules}
 use Rattle.hash.proofs.feeds.feed_blocks.Goals as goal
 
 pub returns-then-h-gt0 : goal.returns-then-h-gt0

@@ -5,7 +5,6 @@ use borrow.Author.Tests.{lt-ltb, le-ltb}
 use Rattle.answer.specs.Answers.{done, bad_record}
 use Rattle.feeding.specs.Record.{fed_or}
 use Rattle.feeding.specs.Calls.{absorbed}
-use borrow.Author.Rules.{rules}
 use Rattle.hash.proofs.feeds.feed_padded.Goals as goal
 
 pub returns-then-count-gt0 : goal.returns-then-count-gt0

@@ -1,5 +1,4 @@
 -- `hash::records::refused` meets its contract. Assumes nothing.
-use borrow.Author.Rules.{rules}
 use Rattle.hash.proofs.records.refused.Goals as goal
 
 pub returns : goal.returns

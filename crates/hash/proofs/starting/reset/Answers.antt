@@ -6,7 +6,6 @@ use Rattle.answer.specs.Answers.{done, bad_record}
 use mathlib.Core.List.{[]}
 use Rattle.field.specs.Rf.{counted}
 use Rattle.feeding.specs.Record.{fed_or, holding}
-use borrow.Author.Rules.{rules}
 use Rattle.hash.proofs.starting.reset.Goals as goal
 
 pub returns-then-h-gt15 : goal.returns-then-h-gt15

@@ -12,7 +12,6 @@ use Rattle.octets.specs.Numbers.{number}
 use Rattle.field.specs.Rf.{counted}
 use Rattle.feeding.specs.Key.{key_of, expanded_of, expansion_cost}
 use Rattle.feeding.specs.Record.{fed_or, holding}
-use borrow.Author.Rules.{rules}
 use Rattle.hash.proofs.starting.start.Goals as goal
 
 pub returns-then-key-ne16 : goal.returns-then-key-ne16

@@ -1,12 +1,12 @@
 -- `join::halving::times` meets its contract. Assumes nothing.
-use Rattle.std.proofs.Common.{◌≡◌, ◌+◌, sym, refl, ap, ◌∙◌, subst, add-zero, zero-add, arith, rules}
+use Rattle.std.proofs.Common.{◌≡◌, ◌+◌, sym, refl, ap, ◌∙◌, subst, add-zero, zero-add, arith}
 use Rattle.field.specs.Element.{value, element}
-use Rattle.field.proofs.Element.{Sized, element_value}
+use Rattle.field.proofs.Element.{element_value}
 use Rattle.feeding.specs.Times.{times, dots_of}
 use Rattle.join.specs.Halving.{halved}
 use Rattle.join.proofs.Times.{never}
 use Rattle.feeding.proofs.Dots.{dots_none, dots_bound}
-use Rattle.join.proofs.Turn.{stands, Kept, turn}
+use Rattle.join.proofs.Turn.{Kept, turn}
 use Rattle.join.proofs.halving.times.Goals as goal
 use Rattle.join.proofs.halving.times.Goals.{After-halve-state}
 

@@ -1,5 +1,4 @@
 -- `limbs::mul32::cut` meets its contract. Assumes nothing.
-use borrow.Author.Rules.{rules}
 use Rattle.limbs.proofs.mul32.cut.Goals as goal
 
 pub returns : goal.returns

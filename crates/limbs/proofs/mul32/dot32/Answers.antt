@@ -8,7 +8,6 @@ use Rattle.limbs.specs.Value.{value}
 use Rattle.limbs.specs.Limbs32.{value_of32}
 use Rattle.limbs.proofs.Pair.{product_lt}
 use Rattle.limbs.proofs.Words32.{value_product}
-use borrow.Author.Rules.{rules}
 use Rattle.limbs.proofs.mul32.dot32.Goals as goal
 
 pub returns : goal.returns

@@ -5,7 +5,6 @@ use Rattle.octets.specs.Xor.{◌⊕◌}
 use Rattle.gf2.specs.Carryless.{clmul}
 use Rattle.limbs.specs.Limbs32.{quarters_of, reversed_quarters, columns_of, reversed_columns, product_of32}
 use Rattle.limbs.proofs.Words32.{Sized32, assembled, product_words, quarters_value}
-use borrow.Author.Rules.{rules}
 use Rattle.limbs.proofs.mul32.karatsuba_mul32.Goals as goal
 
 pub returns : goal.returns

@@ -1,7 +1,6 @@
 -- `limbs::mul32::multiply_columns` meets its contract. Assumes nothing.
 use Rattle.octets.specs.Xor.{◌⊕◌}
 use Rattle.limbs.proofs.Words32.{columns_words}
-use borrow.Author.Rules.{rules}
 use Rattle.limbs.proofs.mul32.multiply_columns.Goals as goal
 
 pub returns : goal.returns

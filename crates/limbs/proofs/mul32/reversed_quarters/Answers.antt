@@ -1,5 +1,4 @@
 -- `limbs::mul32::reversed_quarters` meets its contract. Assumes nothing.
-use borrow.Author.Rules.{rules}
 use Rattle.limbs.proofs.mul32.reversed_quarters.Goals as goal
 
 pub returns : goal.returns

@@ -8,7 +8,6 @@ use Rattle.limbs.specs.Value.{value}
 use Rattle.limbs.specs.Limbs64.{value_of}
 use Rattle.limbs.proofs.Pair.{product_lt}
 use Rattle.limbs.proofs.Words64.{value_product}
-use borrow.Author.Rules.{rules}
 use Rattle.limbs.proofs.mul64.dot.Goals as goal
 
 pub returns : goal.returns

@@ -4,7 +4,6 @@ use native.Mathlib.Omega.{arith}
 use Rattle.octets.specs.Xor.{◌⊕◌}
 use Rattle.limbs.specs.Limbs64.{limbs_of, reversed_limbs}
 use Rattle.limbs.proofs.Words64.{assembled, product_words}
-use borrow.Author.Rules.{rules}
 use Rattle.limbs.proofs.mul64.karatsuba_mul.Goals as goal
 
 pub returns : goal.returns

@@ -1,7 +1,6 @@
 -- `limbs::mul64::multiply_limbs` meets its contract. Assumes nothing.
 use Rattle.octets.specs.Xor.{◌⊕◌}
 use Rattle.limbs.proofs.Words64.{limbs_words}
-use borrow.Author.Rules.{rules}
 use Rattle.limbs.proofs.mul64.multiply_limbs.Goals as goal
 
 pub returns : goal.returns

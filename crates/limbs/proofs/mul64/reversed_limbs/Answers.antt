@@ -1,5 +1,4 @@
 -- `limbs::mul64::reversed_limbs` meets its contract. Assumes nothing.
-use borrow.Author.Rules.{rules}
 use Rattle.limbs.proofs.mul64.reversed_limbs.Goals as goal
 
 pub returns : goal.returns

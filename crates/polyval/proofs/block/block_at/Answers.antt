@@ -5,7 +5,6 @@ use lib.ListN.{drop_of_length-le}
 use Rattle.octets.specs.Numbers.{number}
 use Rattle.polyval.specs.FirstBlock.{IsBlock}
 use Rattle.octets.proofs.Parts.{part_rest}
-use borrow.Author.Rules.{rules}
 use Rattle.polyval.proofs.block.block_at.Goals as goal
 
 pub returns-then-i-s : goal.returns-then-i-s

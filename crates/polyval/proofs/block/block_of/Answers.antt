@@ -6,7 +6,6 @@ use Rattle.octets.proofs.Numbers.{bytes_from}
 use Rattle.field.specs.Element.{element}
 use Rattle.field.proofs.Element.{value_of}
 use Rattle.rfc8452.proofs.Cut.{number_pasted, block_lt}
-use borrow.Author.Rules.{rules}
 use Rattle.polyval.proofs.block.block_of.Goals as goal
 
 pub returns : goal.returns

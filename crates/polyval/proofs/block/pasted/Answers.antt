@@ -1,6 +1,5 @@
 -- `polyval::block::pasted` meets its contract. Assumes nothing.
 use native.Mathlib.Omega.{arith}
-use borrow.Author.Rules.{rules}
 use Rattle.octets.proofs.Copies.{copied-within, copied_nowhere}
 use Rattle.polyval.proofs.block.pasted.Goals as goal
 

@@ -1,10 +1,8 @@
 -- `polyval::key::check` meets its contract. Assumes nothing.
-use Prim.Native.Nat.{◌-◌, ◌≤◌}
-use mathlib.Core.Path.{◌≡◌, refl, sym, ap, ◌∙◌}
+use mathlib.Core.Path.{refl, sym, ap, ◌∙◌}
 use native.Mathlib.Omega.{arith}
-use borrow.Author.Tests.{not-true, not-false}
 use borrow.Author.Rules.{rules}
-use lib.ListN.{length, drop}
+use lib.ListN.{length}
 use Rattle.feeding.specs.Key.{expanded_of, power_count, same_powers}
 use Rattle.field.specs.Element.{value}
 use Rattle.feeding.proofs.Powers.{powers_length}

@@ -1,14 +1,8 @@
 -- `polyval::key::check` meets its contract. Assumes nothing.
 use Prim.Native.Nat.{◌-◌, ◌≤◌}
-use mathlib.Core.Path.{◌≡◌, refl, sym, ap, ◌∙◌}
-use native.Mathlib.Omega.{arith}
-use borrow.Author.Tests.{not-true, not-false}
-use borrow.Author.Rules.{rules}
+use mathlib.Core.Path.{◌≡◌}
 use lib.ListN.{length, drop}
-use Rattle.feeding.specs.Key.{expanded_of, power_count, same_powers}
-use Rattle.field.specs.Element.{value}
-use Rattle.feeding.proofs.Powers.{powers_length}
-use Rattle.polyval.proofs.KeyTurns.{length_mapped, same_turn, same_ends, same_done}
+use Rattle.feeding.specs.Key.{power_count, same_powers}
 use Rattle.polyval.proofs.key.check.Given as goal
 
 abbrev pub invariant-loop-i : goal.invariant-loop-i

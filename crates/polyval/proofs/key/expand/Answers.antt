@@ -4,7 +4,7 @@ use mathlib.Core.Path.{◌≡◌, refl, sym, ap, ◌∙◌}
 use mathlib.Core.List.{◌∷◌}
 use native.Mathlib.Omega.{arith}
 use borrow.Author.Rules.{rules}
-use lib.ListN.{length, replicate, set, length-set}
+use lib.ListN.{replicate, set, length-set}
 use lib.Seq.{paste}
 use Rattle.field.specs.Element.{value, element}
 use Rattle.field.proofs.Element.{Sized, element_value}

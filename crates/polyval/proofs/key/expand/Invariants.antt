@@ -1,17 +1,11 @@
 -- `polyval::key::expand` meets its contract. Assumes nothing.
-use Prim.Native.Nat.{ℕ, suc, ◌+◌, ◌-◌, ◌*◌, ◌%◌, ◌^◌, ◌≤◌, ◌<◌}
-use mathlib.Core.Path.{◌≡◌, refl, sym, ap, ◌∙◌}
-use mathlib.Core.List.{◌∷◌}
-use native.Mathlib.Omega.{arith}
-use borrow.Author.Rules.{rules}
-use lib.ListN.{length, replicate, set, length-set}
+use Prim.Native.Nat.{◌+◌, ◌-◌, ◌*◌, ◌≤◌}
+use mathlib.Core.Path.{◌≡◌}
+use lib.ListN.{length}
 use lib.Seq.{paste}
 use Rattle.field.specs.Element.{value, element}
-use Rattle.field.proofs.Element.{Sized, element_value}
-use Rattle.feeding.specs.declared.Power.{Power}
-use Rattle.feeding.specs.Key.{power_count, power_of, powers_from, power_at}
-use Rattle.feeding.proofs.Powers.{nth, power_at_lem, powers_length}
-use Rattle.polyval.proofs.KeyTurns.{store_turn, next_power, next_companion}
+use Rattle.feeding.specs.Key.{power_count, powers_from}
+use Rattle.feeding.proofs.Powers.{nth}
 use Rattle.polyval.proofs.key.expand.Given as goal
 
 abbrev pub invariant-loop-i : goal.invariant-loop-i

@@ -1,7 +1,6 @@
 -- `polyval::key::same_power` meets its contract. Assumes nothing.
 use mathlib.Core.Bool.{◌&&◌}
 use mathlib.Core.Path.{sym, ap, ◌∙◌}
-use borrow.Author.Rules.{rules}
 use Rattle.feeding.specs.Key.{same_element}
 use Rattle.polyval.proofs.key.same_power.Goals as goal
 

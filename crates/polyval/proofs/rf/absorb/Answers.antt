@@ -1,5 +1,5 @@
 -- `polyval::rf::absorb` meets its contract. Assumes nothing.
-use Prim.Native.Nat.{suc, ◌+◌, ◌-◌, ◌≤◌}
+use Prim.Native.Nat.{suc}
 use mathlib.Core.Path.{◌≡◌, refl, sym, ap, ◌∙◌, subst}
 use mathlib.Core.List.{◌∷◌}
 use native.Mathlib.Numerals.{add-one}
@@ -9,7 +9,6 @@ use lib.ListN.{length, get_or, drop, length-take, length-drop}
 use Rattle.rfc8452.specs.Blocks.{blocks}
 use Rattle.octets.proofs.Parts.{part_rest}
 use Rattle.rfc8452.proofs.Parts.{blocks-length}
-use Rattle.feeding.specs.Formulas.{rf_run}
 use Rattle.polyval.specs.Sizes.{Fits}
 use Rattle.polyval.proofs.Groups.{cut, part_blocks, taken, passed, all_sizes}
 use Rattle.polyval.proofs.rf.absorb.Goals as goal

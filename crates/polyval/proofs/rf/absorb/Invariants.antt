@@ -1,17 +1,10 @@
 -- `polyval::rf::absorb` meets its contract. Assumes nothing.
-use Prim.Native.Nat.{suc, ◌+◌, ◌-◌, ◌≤◌}
-use mathlib.Core.Path.{◌≡◌, refl, sym, ap, ◌∙◌, subst}
-use mathlib.Core.List.{◌∷◌}
-use native.Mathlib.Numerals.{add-one}
-use native.Mathlib.Omega.{arith}
-use borrow.Author.Rules.{rules}
-use lib.ListN.{length, get_or, drop, length-take, length-drop}
+use Prim.Native.Nat.{◌+◌, ◌-◌, ◌≤◌}
+use mathlib.Core.Path.{◌≡◌}
+use lib.ListN.{length, drop}
 use Rattle.rfc8452.specs.Blocks.{blocks}
-use Rattle.octets.proofs.Parts.{part_rest}
-use Rattle.rfc8452.proofs.Parts.{blocks-length}
 use Rattle.feeding.specs.Formulas.{rf_run}
 use Rattle.polyval.specs.Sizes.{Fits}
-use Rattle.polyval.proofs.Groups.{cut, part_blocks, taken, passed, all_sizes}
 use Rattle.polyval.proofs.rf.absorb.Given as goal
 
 abbrev pub invariant-loop-k : goal.invariant-loop-k

@@ -1,7 +1,6 @@
 -- `polyval::rf::block_count` meets its contract. Assumes nothing.
 use mathlib.Core.Path.{sym}
 use Rattle.rfc8452.proofs.Parts.{blocks-length}
-use borrow.Author.Rules.{rules}
 use Rattle.polyval.proofs.rf.block_count.Goals as goal
 
 pub returns : goal.returns

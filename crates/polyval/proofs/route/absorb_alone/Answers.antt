@@ -3,7 +3,6 @@ use mathlib.Core.Path.{sym, ap, ◌∙◌}
 use Rattle.rfc8452.specs.Blocks.{blocks}
 use Rattle.feeding.specs.Formulas.{alone}
 use Rattle.feeding.specs.Routes.{absorb_on}
-use borrow.Author.Rules.{rules}
 use Rattle.polyval.proofs.route.absorb_alone.Goals as goal
 
 pub returns-in-Wide : goal.returns-in-Wide

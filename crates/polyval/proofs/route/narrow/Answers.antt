@@ -3,7 +3,6 @@ use mathlib.Core.Path.{ap, ◌∙◌}
 use Rattle.field.specs.Element.{value, element}
 use Rattle.rfc8452.specs.Machine.{run}
 use Rattle.rfc8452.specs.Blocks.{blocks}
-use borrow.Author.Rules.{rules}
 use Rattle.polyval.proofs.route.narrow.Goals as goal
 
 pub returns : goal.returns

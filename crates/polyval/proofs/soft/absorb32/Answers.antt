@@ -1,9 +1,9 @@
 -- `polyval::soft::absorb32` meets its contract. Assumes nothing.
-use Prim.Native.Nat.{ℕ, ◌+◌, ◌-◌, ◌≤◌, ◌<◌, ◌^◌}
+use Prim.Native.Nat.{ℕ, ◌+◌, ◌<◌, ◌^◌}
 use mathlib.Core.Path.{◌≡◌, refl, sym, ap, ◌∙◌, subst}
 use native.Mathlib.Omega.{arith}
 use borrow.Author.Rules.{rules}
-use lib.ListN.{length, drop, take}
+use lib.ListN.{drop, take}
 use Rattle.octets.specs.Xor.{◌⊕◌}
 use Rattle.gf2.specs.Polyval.{dot}
 use Rattle.octets.specs.Numbers.{number}

@@ -1,19 +1,10 @@
 -- `polyval::soft::absorb32` meets its contract. Assumes nothing.
-use Prim.Native.Nat.{ℕ, ◌+◌, ◌-◌, ◌≤◌, ◌<◌, ◌^◌}
-use mathlib.Core.Path.{◌≡◌, refl, sym, ap, ◌∙◌, subst}
-use native.Mathlib.Omega.{arith}
-use borrow.Author.Rules.{rules}
-use lib.ListN.{length, drop, take}
-use Rattle.octets.specs.Xor.{◌⊕◌}
-use Rattle.gf2.specs.Polyval.{dot}
-use Rattle.octets.specs.Numbers.{number}
-use Rattle.octets.proofs.Xor.{⊕-lt}
-use Rattle.gf2.proofs.Dot.{dot_lt}
+use Prim.Native.Nat.{◌+◌, ◌-◌, ◌≤◌, ◌<◌, ◌^◌}
+use mathlib.Core.Path.{◌≡◌}
+use lib.ListN.{length, drop}
 use Rattle.field.specs.Element.{value, element}
-use Rattle.field.proofs.Element.{Sized, value_lt, value_of, element_value}
-use Rattle.rfc8452.specs.Machine.{step, run}
+use Rattle.rfc8452.specs.Machine.{run}
 use Rattle.rfc8452.specs.Blocks.{blocks}
-use Rattle.polyval.proofs.Absorb.{rest_turn, rest_none}
 use Rattle.polyval.proofs.soft.absorb32.Given as goal
 
 abbrev pub invariant-loop-i : goal.invariant-loop-i

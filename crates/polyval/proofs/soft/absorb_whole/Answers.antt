@@ -1,9 +1,7 @@
 -- `polyval::soft::absorb_whole` meets its contract. Assumes nothing.
-use Prim.Native.Nat.{◌-◌, ◌%◌, ◌≤◌}
-use mathlib.Core.Path.{◌≡◌, refl, sym, ap, ◌∙◌}
+use mathlib.Core.Path.{refl, sym, ap, ◌∙◌}
 use native.Mathlib.Omega.{arith}
 use borrow.Author.Rules.{rules}
-use lib.ListN.{length, take}
 use lib.Seq.{take_all}
 use Rattle.field.specs.Element.{value, element}
 use Rattle.field.proofs.Element.{value_lt, element_value}

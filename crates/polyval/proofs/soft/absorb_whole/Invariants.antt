@@ -1,15 +1,10 @@
 -- `polyval::soft::absorb_whole` meets its contract. Assumes nothing.
 use Prim.Native.Nat.{◌-◌, ◌%◌, ◌≤◌}
-use mathlib.Core.Path.{◌≡◌, refl, sym, ap, ◌∙◌}
-use native.Mathlib.Omega.{arith}
-use borrow.Author.Rules.{rules}
+use mathlib.Core.Path.{◌≡◌}
 use lib.ListN.{length, take}
-use lib.Seq.{take_all}
 use Rattle.field.specs.Element.{value, element}
-use Rattle.field.proofs.Element.{value_lt, element_value}
 use Rattle.rfc8452.specs.Machine.{run}
 use Rattle.rfc8452.specs.Blocks.{blocks}
-use Rattle.polyval.proofs.Absorb.{absorb_none, absorb_turn}
 use Rattle.polyval.proofs.soft.absorb_whole.Given as goal
 
 abbrev pub invariant-loop-i : goal.invariant-loop-i

@@ -1,5 +1,5 @@
 -- `field::FieldElement::dot32` meets its contract. Assumes nothing.
-use Rattle.std.proofs.Common.{◌∙◌, rules}
+use Rattle.std.proofs.Common.{◌∙◌}
 use Rattle.field.specs.Element.{value}
 use Rattle.field.proofs.Element.{dot_words}
 use Rattle.field.proofs.field_element.FieldElement.dot32.Goals as goal

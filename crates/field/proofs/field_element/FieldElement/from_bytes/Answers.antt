@@ -1,5 +1,5 @@
 -- `field::FieldElement::from_bytes` meets its contract. Assumes nothing.
-use Rattle.std.proofs.Common.{arith, rules}
+use Rattle.std.proofs.Common.{arith}
 use Rattle.field.proofs.Bytes.{from_halves}
 use Rattle.field.proofs.field_element.FieldElement.from_bytes.Goals as goal
 

@@ -1,5 +1,5 @@
 -- `field::FieldElement::reverse` meets its contract. Assumes nothing.
-use Rattle.std.proofs.Common.{[], ◌∷◌, get_or, ap, ◌∙◌, rules}
+use Rattle.std.proofs.Common.{[], ◌∷◌, get_or, ap, ◌∙◌}
 use Rattle.octets.specs.Numbers.{number, bytes_of}
 use Rattle.field.specs.Element.{element}
 use Rattle.field.proofs.field_element.FieldElement.reverse.Goals as goal

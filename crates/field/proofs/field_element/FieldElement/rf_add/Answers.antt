@@ -1,5 +1,5 @@
 -- `field::FieldElement::rf_add` meets its contract. Assumes nothing.
-use Rattle.std.proofs.Common.{ap, ◌∙◌, arith, rules}
+use Rattle.std.proofs.Common.{ap, ◌∙◌, arith}
 use Rattle.field.specs.Rf.{plus_product}
 use Rattle.field.proofs.RfWords.{with_f, add_words}
 use Rattle.field.proofs.field_element.FieldElement.rf_add.Goals as goal

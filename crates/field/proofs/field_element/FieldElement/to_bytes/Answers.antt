@@ -1,5 +1,5 @@
 -- `field::FieldElement::to_bytes` meets its contract. Assumes nothing.
-use Rattle.std.proofs.Common.{arith, rules}
+use Rattle.std.proofs.Common.{arith}
 use Rattle.octets.proofs.WordBytes.{cells_++}
 use Rattle.field.proofs.field_element.FieldElement.to_bytes.Goals as goal
 

@@ -1,5 +1,5 @@
 -- `field::rf::Counted::plus_product` meets its contract. Assumes nothing.
-use Rattle.std.proofs.Common.{◌+◌, ◌*◌, ◌^◌, ap, ◌∙◌, rules}
+use Rattle.std.proofs.Common.{◌+◌, ◌*◌, ◌^◌, ap, ◌∙◌}
 use lib.Pow.{split}
 use Rattle.octets.specs.Xor.{◌⊕◌}
 use Rattle.gf2.specs.Carryless.{clmul}

@@ -1,10 +1,10 @@
 -- `ghash::parts::Ghash::feed_padded` meets its contract. Assumes nothing.
-use Prim.Native.Nat.{ℕ, ◌+◌, ◌-◌, ◌≤◌}
+use Prim.Native.Nat.{ℕ, ◌+◌}
 use mathlib.Core.Path.{◌≡◌, refl, sym, ap, ◌∙◌}
 use mathlib.Core.List.{map}
 use native.Mathlib.Omega.{arith}
 use borrow.Author.Rules.{rules}
-use lib.ListN.{length, drop, take}
+use lib.ListN.{drop, take}
 use Rattle.octets.specs.Numbers.{number}
 use Rattle.field.specs.Element.{value, element}
 use Rattle.field.proofs.Element.{value_of, element_value}

@@ -5,7 +5,6 @@ use Rattle.field.specs.Element.{value}
 use Rattle.field.proofs.Element.{value_of}
 use Rattle.rfc8452.specs.AppendixA.{reversed}
 use Rattle.rfc8452.proofs.Reversed.{reversed_lt, bytes_of-reversed}
-use borrow.Author.Rules.{rules}
 use Rattle.ghash.proofs.parts.Ghash.finish.Goals as goal
 
 pub returns : goal.returns

@@ -16,7 +16,6 @@ use Rattle.field.proofs.Element.{value_of}
 use Rattle.ghash.specs.declared.parts.Started.{Started}
 use Rattle.rfc8452.specs.AppendixA.{reversed, key_for}
 use Rattle.rfc8452.proofs.Reversed.{reversed_lt}
-use borrow.Author.Rules.{rules}
 use Rattle.ghash.proofs.parts.Ghash.start.Goals as goal
 
 -- by the outcome of the test

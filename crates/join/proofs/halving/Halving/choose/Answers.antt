@@ -1,5 +1,5 @@
 -- `join::halving::Halving::choose` meets its contract. Assumes nothing.
-use Rattle.std.proofs.Common.{◌%◌, cond, sym, ap, ◌∙◌, rules, eq-eqb, ne_eqb}
+use Rattle.std.proofs.Common.{◌%◌, cond, sym, ap, ◌∙◌, eq-eqb, ne_eqb}
 use Rattle.gf2.specs.Polyval.{dot}
 use Rattle.field.specs.Element.{value, element}
 use Rattle.field.specs.Rf.{after}

@@ -1,5 +1,5 @@
 -- `join::halving::Halving::halve` meets its contract. Assumes nothing.
-use Rattle.std.proofs.Common.{◌/◌, Bool, cond, sym, ap, ◌∙◌, rules, le-ltb, lt-ltb}
+use Rattle.std.proofs.Common.{◌/◌, Bool, cond, sym, ap, ◌∙◌, le-ltb, lt-ltb}
 use Rattle.gf2.specs.Polyval.{dot}
 use Rattle.field.specs.Element.{value, element}
 use Rattle.field.specs.Rf.{after}

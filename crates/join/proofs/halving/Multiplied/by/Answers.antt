@@ -1,5 +1,4 @@
 -- `join::halving::Multiplied::by` meets its contract. Assumes nothing.
-use Rattle.std.proofs.Common.{rules}
 use Rattle.join.proofs.halving.Multiplied.by.Goals as goal
 
 pub returns : goal.returns

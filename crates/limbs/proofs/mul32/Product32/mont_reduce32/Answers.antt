@@ -2,7 +2,6 @@
 use native.Mathlib.Omega.{arith}
 use Rattle.octets.specs.Xor.{◌⊕◌}
 use Rattle.limbs.proofs.Folds32.{folded}
-use borrow.Author.Rules.{rules}
 use Rattle.limbs.proofs.mul32.Product32.mont_reduce32.Goals as goal
 
 pub returns : goal.returns

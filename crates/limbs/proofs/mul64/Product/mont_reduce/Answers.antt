@@ -2,7 +2,6 @@
 use native.Mathlib.Omega.{arith}
 use Rattle.octets.specs.Xor.{◌⊕◌}
 use Rattle.limbs.proofs.Folds64.{folded}
-use borrow.Author.Rules.{rules}
 use Rattle.limbs.proofs.mul64.Product.mont_reduce.Goals as goal
 
 pub returns : goal.returns
