@@ -2,6 +2,7 @@
 // positions in modules of their own. Nothing here needs a key: writing and reading are in the crate message.
 // Assumes nothing.
 #![tactic(auto)]
+
 use framing::{Front, MARK};
 use octets::words::le16;
 
