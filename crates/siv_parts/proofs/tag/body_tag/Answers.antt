@@ -9,33 +9,21 @@ use Rattle.modes.proofs.Stream.{masked_length}
 use Rattle.rfc8452.specs.Counter.{counter_block, next_counter, mask_under}
 use Rattle.rfc8452.specs.Tag.{length_block, tag_block, hashed, tag_under}
 use Rattle.siv_parts.proofs.Hashing.{three_parts}
-use Rattle.siv_parts.proofs.tag.body_tag.Statement.{statement}
-use Rattle.siv_parts.proofs.tag.body_tag.Tie as tie
+use Rattle.siv_parts.proofs.tag.body_tag.Goals as goal
 
-returns : tie.Need-returns
+pub returns : goal.returns
 unfolding hashed tag_under
 returns c =
-    let a = c.before.before.before.before.before.before.before.before.args in
+    let a = c.args in
     let h = value a.keys.hash in
     let f = encrypted a.keys.cipher in
     let ad = a.ad.now in
     let text = mask_under f a.tag a.body.now in
-    let first = c.before.before.before.absorb in
-    let second = c.before.absorb-masked in
+    let first = c.absorb-first in
+    let second = c.absorb_masked-second in
     c.finished.ensures
     ∙ ap (λ n. f (tag_block a.nonce (run h (value second.result) (blocks (length_block (length ad) n))))) (sym (masked_length next_counter f (counter_block a.tag) a.body.now))
     ∙ ap (λ n. f (tag_block a.nonce n))
     (three_parts h (blocks ad) (blocks text) (blocks (length_block (length ad) (length text))) first.result second.result
-    (first.ensures ∙ ap (λ v. element (run h (value v) (blocks ad))) c.before.before.before.before.zero.ensures)
-    (second.ensures ∙ ap (λ (b : List ℕ). element (run h (value first.result) (blocks (masked next_counter f b a.body.now)))) c.before.before.counter-block.ensures))
-
-pub body-tag-spec : {M : Type 1} → statement M
-body-tag-spec =
-    tie.close
-    (tie.spec
-    (λ c κs. search rules)
-    (λ c κs. search rules)
-    (λ c κs. search rules)
-    (λ c κs. search rules)
-    (λ c κs. search rules)
-    returns)
+    (first.ensures ∙ ap (λ v. element (run h (value v) (blocks ad))) c.zero.ensures)
+    (second.ensures ∙ ap (λ (b : List ℕ). element (run h (value first.result) (blocks (masked next_counter f b a.body.now)))) c.counter_block.ensures))
