@@ -8,25 +8,12 @@ use Rattle.octets.proofs.Parts.{part_rest}
 use Rattle.octets.specs.Strings.{copied}
 use Rattle.octets.proofs.Copies.{copied_fills}
 use borrow.Author.Rules.{rules}
-use Rattle.siv.proofs.tag_in.Statement.{statement}
-use Rattle.siv.proofs.tag_in.Tie as tie
+use Rattle.siv.proofs.tag_in.Goals as goal
 
-returns : tie.Need-returns
+pub returns : goal.returns
 returns c =
-    let start = c.before.before.before.before.before in
+    let start = c in
     let s = start.args.sealed.now in
     let at = length s - 16 in
-    c.before.copy.ensures ∙ ap (λ (x : List ℕ). copied x (replicate 16 0)) (part_rest at s)
+    c.copy.ensures ∙ ap (λ (x : List ℕ). copied x (replicate 16 0)) (part_rest at s)
     ∙ copied_fills (drop at s) (replicate 16 0) (length-drop at s ∙ omega (arith, start.requires))
-
-pub tag-in-spec : {M : Type 1} → statement M
-tag-in-spec =
-    tie.close
-    (tie.spec
-    (λ c. search rules)
-    (λ c. search rules)
-    (λ c. search rules)
-    (λ c. search rules)
-    (λ c. search rules)
-    (λ c κs. search rules)
-    returns)

@@ -10,36 +10,21 @@ use Rattle.modes.proofs.Stream.{masked_length}
 use Rattle.rfc8452.specs.Counter.{counter_block, next_counter, mask_under}
 use Rattle.siv.proofs.Writing.{put_behind}
 use borrow.Author.Rules.{rules}
-use Rattle.siv.proofs.put_sealed.Statement.{statement}
-use Rattle.siv.proofs.put_sealed.Tie as tie
+use Rattle.siv.proofs.put_sealed.Goals as goal
 
-returns : tie.Need-returns
+pub returns : goal.returns
 unfolding sealed_by
 returns c =
-    let start = c.before.before.before.before.before.before.before.before.before.before.before.before.before.before in
+    let start = c in
     let a = start.args in
     let f = encrypted a.keys.cipher in
     let text = a.text.now in
     let out = a.out.now in
-    let made = c.before.before.before.before.before.before.before.before.before.before.text-tag in
-    let put = c.before.before.before.before.before.before.before.put-masked in
-    let last = c.before.before.copy in
+    let made = c.text_tag-t in
+    let put = c.put_masked in
+    let last = c.copy in
     let sixteen : length made.result ≡ 16 = search rules in
-    put_behind (mask_under f made.result text) made.result out put.new.1.1.1.0 last.new.1.0 (length text)
+    put_behind (mask_under f made.result text) made.result out put.new.out last.new.dst (length text)
     (masked_length next_counter f (counter_block made.result) text) (omega (arith, start.requires)) put.ensures last.ensures
     ∙ ap (λ n. (mask_under f made.result text ++ made.result) ++ drop (length text + n) out) sixteen
     ∙ ap (λ (t : List ℕ). (mask_under f t text ++ t) ++ drop (length text + 16) out) made.ensures
-
-pub put-sealed-spec : {M : Type 1} → statement M
-put-sealed-spec =
-    tie.close
-    (tie.spec
-    (λ c κs. search rules)
-    (λ c κs. search rules)
-    (λ c. search rules)
-    (λ c. search rules)
-    (λ c. search rules)
-    (λ c. search rules)
-    (λ c κs. search rules)
-    (λ c. search rules)
-    returns)
