@@ -7,15 +7,11 @@ use borrow.Author.Rules.{rules}
 use Rattle.octets.specs.Numbers.{bytes_of}
 use Rattle.framing.specs.Front.{mark}
 use Rattle.messaging.specs.Parts.{header}
-use Rattle.message.proofs.writing.header.Statement.{statement}
-use Rattle.message.proofs.writing.header.Tie as tie
+use Rattle.message.proofs.writing.header.Goals as goal
 
 both_bytes : (kind n : ℕ) (b : List ℕ) → b ≡ bytes_of 2 n → mark ∷ kind ∷ get_or b 0 0 ∷ get_or b 1 0 ∷ [] ≡ header kind n
 unfolding bytes_of
 both_bytes kind n b e = ap (λ (l : List ℕ). mark ∷ kind ∷ get_or l 0 0 ∷ get_or l 1 0 ∷ []) e ∙ refl
 
-returns : tie.Need-returns
-returns c = both_bytes _ _ _ c.le16-bytes.ensures
-
-pub header-spec : {M : Type 1} → statement M
-header-spec = tie.close (tie.spec (λ c. search rules) (λ c κs. search rules) (λ c. search rules) (λ c. search rules) returns)
+pub returns : goal.returns
+returns c = both_bytes _ _ _ c.le16_bytes-len.ensures
