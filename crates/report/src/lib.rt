@@ -1,6 +1,7 @@
 // What people read of a log: the line of each frame, and the last line. Nothing that a frame holds can act on a
 // terminal or be taken for an escape (reporting/proofs). Assumes nothing.
 #![tactic(auto)]
+
 mod escapes;
 mod numbers;
 mod pieces;

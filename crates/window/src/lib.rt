@@ -2,6 +2,7 @@
 // some bytes of it. The pieces may have any size, as a file's reads have; proofs/InPieces.antt shows that
 // such a reader reports what a scan of the whole log finds. Assumes nothing.
 #![tactic(auto)]
+
 ghost use Rattle.std.specs.Prelude.{◌≡◌};
 ghost use Rattle.sealing.specs.Calls.{log_answer};
 ghost use Rattle.window.specs.Step.{step_of};

@@ -22,5 +22,5 @@ returns c =
     (λ i. sixteen
     ((c.le32_bytes-a.ensures ∙ ap (bytes_of 4) (c.to_bits.ensures ∙ ap bits_of (to_z-of_z {w = w32} {z = p.lat} (search rules)))) i)
     ((c.le32_bytes-o.ensures ∙ ap (bytes_of 4) (c.to_bits-2.ensures ∙ ap bits_of (to_z-of_z {w = w32} {z = p.lon} (search rules)))) i)
-    ((c.le32_bytes-h.ensures ∙ ap (bytes_of 4) (c.to_bits-3.ensures ∙ ap bits_of (to_z-of_z {w = w32} {z = p.alt} (search (rules, c.struct_told-3-1))))) i)
+    ((c.le32_bytes-h.ensures ∙ ap (bytes_of 4) (c.to_bits-3.ensures ∙ ap bits_of (to_z-of_z {w = w32} {z = p.alt} (search rules)))) i)
     (c.le32_bytes-t.ensures i))
