@@ -3,6 +3,8 @@
 // that a count lies within the buffer and is 0 after a failure. Assumes nothing beyond what std assumes.
 #![tactic(auto)]
 
+mod words;
+
 ghost use Rattle.std.specs.Prelude.{◌≡◌};
 ghost use Rattle.files.specs.Files.{Opened, Read, descriptor_of};
 
@@ -11,9 +13,13 @@ use std::io::Write;
 use std::os::fd::AsRawFd;
 use std::rt::Files;
 use std::{io, str};
+pub use words::{has_word, word};
 
 // What a key file may have at most, 32 bytes, and a byte more, so that a longer one is told.
 pub const KEY_ROOM: usize = 33;
+
+// What a file's name may have at most, as the system has it: a longer one is no file's.
+pub const NAME_ROOM: usize = 4096;
 
 // How many bytes were read; 0 where the file is at its end, and where it failed.
 #[derive(Clone, Copy)]
