@@ -8,9 +8,8 @@ use native.Mathlib.Omega.{arith}
 use lib.Dec.{leb→le}
 use lib.ListN.{length}
 use lib.Signed.{lt_z}
-use Rattle.io.specs.Counts.{IsPrefixLen}
 use Rattle.files.specs.declared.Got.{Got}
-use Rattle.files.specs.Files.{Opened, Read}
+use Rattle.files.specs.Files.{IsPrefixLen, Opened, Read}
 use Rattle.logic.proofs.Tests.{no}
 
 -- what is not below 0 is a descriptor

@@ -1,12 +1,25 @@
 // The files that a program is given by name. Where a call fails, the file's name and the system's reason
 // go to standard error. What is read is the system's: no contract can speak of it, and these say only
-// that a count lies within the buffer and is 0 after a failure. Assumes nothing beyond what io, os and
-// libc assume.
+// that a count lies within the buffer and is 0 after a failure. Assumes nothing beyond what std assumes.
 #![tactic(auto)]
-ghost use Rattle.files.specs.Files.{Opened, Read};
+
+mod words;
+
+ghost use Rattle.std.specs.Prelude.{◌≡◌};
+ghost use Rattle.files.specs.Files.{Opened, Read, descriptor_of};
+
+use std::fs::File;
+use std::io::Write;
+use std::os::fd::AsRawFd;
+use std::rt::Files;
+use std::{io, str};
+pub use words::{has_word, word};
 
 // What a key file may have at most, 32 bytes, and a byte more, so that a longer one is told.
 pub const KEY_ROOM: usize = 33;
+
+// What a file's name may have at most, as the system has it: a longer one is no file's.
+pub const NAME_ROOM: usize = 4096;
 
 // How many bytes were read; 0 where the file is at its end, and where it failed.
 #[derive(Clone, Copy)]
@@ -18,43 +31,102 @@ pub struct Got {
 // What a failed read counts.
 const NOTHING: usize = 0;
 
-// A descriptor for reading the file at path, or -1.
-pub fn open(path: &[u8]) -> i32
-    ensures { Opened result }
+// The system's reason, without the number that std writes behind it.
+fn reason(said: &str) -> &str {
+    match said.split_once(" (os error ") {
+        Some((reason, _)) => reason,
+        None => said,
+    }
+}
+
+// The part of some text that was written to the front of zeros.
+fn written(text: &[u8]) -> &str {
+    match str::from_utf8(text) {
+        Ok(said) => said.trim_end_matches('\0'),
+        Err(_) => "",
+    }
+}
+
+// Writes a name to standard error. Bytes that are not UTF-8 are shown as the character for that.
+fn put_name<R: Eprint>(rt: &R, path: &[u8]) {
+    for part in path.utf8_chunks() {
+        let _ = eprint!(rt; "{}", part.valid());
+        if !part.invalid().is_empty() {
+            let _ = eprint!(rt; "\u{fffd}");
+        }
+    }
+}
+
+// Says on standard error what failed, as the caller names it, and why.
+pub fn fail<R: Eprint>(rt: &R, path: &[u8], error: io::Error) {
+    let mut text = io::Cursor::new([0u8; 256]);
+    let _ = write!(text, "{error}");
+    let why = reason(written(text.get_ref()));
+    put_name(rt, path);
+    let _ = eprintln!(rt; ": {why}");
+}
+
+// The file at path, opened for reading. std opens no name that is not UTF-8.
+fn open_named<R: Files<File = File>>(rt: &R, path: &[u8]) -> io::Result<File> {
+    match str::from_utf8(path) {
+        Ok(name) => File::open(rt, name),
+        Err(_) => Err(io::Error::from(io::ErrorKind::InvalidFilename)),
+    }
+}
+
+// The descriptor of what was opened, or -1 where nothing was.
+pub fn descriptor(opened: &Option<File>) -> i32
+    ensures { result ≡ descriptor_of opened.now }
 {
-    let opened = os::open_read(path);
-    if opened < 0 {
-        os::fail(path);
-        return -1;
+    match opened {
+        Some(file) => file.as_raw_fd(),
+        None => -1,
+    }
+}
+
+// The file at path, opened for reading, unless that fails.
+pub fn open<R: Files<File = File> + Eprint>(rt: &R, path: &[u8]) -> Option<File>
+    ensures { Opened (descriptor_of result) }
+{
+    let opened = match open_named(rt, path) {
+        Ok(file) => Some(file),
+        Err(error) => {
+            fail(rt, path, error);
+            None
+        }
+    };
+    if descriptor(&opened) < 0 {
+        return None;
     }
     opened
 }
 
 // One read to the front of buf, of any count that the system chooses.
-pub fn read(fd: i32, path: &[u8], buf: &mut [u8]) -> Got
+pub fn read<R: Eprint, F: io::Read>(rt: &R, file: &mut F, path: &[u8], buf: &mut [u8]) -> Got
     ensures { Read result buf.new }
 {
-    let got = libc::read(fd, buf);
-    if got < 0 {
-        os::fail(path);
-        return Got {
-            failed: true,
-            count: NOTHING,
-        };
-    }
-    Got {
-        failed: false,
-        count: io::count(got, buf),
+    match file.read(buf) {
+        Ok(got) => Got {
+            failed: false,
+            count: got,
+        },
+        Err(error) => {
+            fail(rt, path, error);
+            Got {
+                failed: true,
+                count: NOTHING,
+            }
+        }
     }
 }
 
 // Reads until buf is full or the file ends.
-fn fill(fd: i32, path: &[u8], buf: &mut [u8]) -> Got
+fn fill<R: Eprint, F: io::Read>(rt: &R, file: &mut F, path: &[u8], buf: &mut [u8]) -> Got
     ensures { Read result buf.new }
 {
     let mut n = 0;
     while n < buf.len() {
-        let got = read(fd, path, &mut buf[n..]);
+        let got = read(rt, file, path, &mut buf[n..]);
         if got.failed {
             return Got {
                 failed: true,
@@ -76,17 +148,16 @@ fn fill(fd: i32, path: &[u8], buf: &mut [u8]) -> Got
 }
 
 // The first bytes of the file at path, as many as buf has room for.
-pub fn fetch(path: &[u8], buf: &mut [u8]) -> Got
+pub fn fetch<R: Files<File = File> + Eprint>(rt: &R, path: &[u8], buf: &mut [u8]) -> Got
     ensures { Read result buf.new }
 {
-    let fd = open(path);
-    if fd < 0 {
+    let Some(mut file) = open(rt, path) else {
         return Got {
             failed: true,
             count: NOTHING,
         };
-    }
-    let got = fill(fd, path, buf);
-    libc::close(fd);
+    };
+    let got = fill(rt, &mut file, path, buf);
+    drop(file);
     got
 }

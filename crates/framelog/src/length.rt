@@ -2,7 +2,10 @@
 ghost use Rattle.std.specs.Prelude.{◌≤◌};
 
 use files::Got;
-use libc::STDOUT_FILENO;
+use std::fs::File;
+
+// How many bytes of a log are measured at a time.
+const PIECE: usize = 65536;
 
 // How long a log is, as far as it was read: no longer than is needed to see that it is too long.
 #[derive(Clone, Copy)]
@@ -12,18 +15,18 @@ pub(crate) struct Measured {
 }
 
 // One read of a log that is only measured: what it read is dropped.
-fn measure_some(fd: i32, path: &[u8]) -> Got
+fn measure_some<R: Eprint>(rt: &R, file: &mut File, path: &[u8]) -> Got
     ensures { result.count ≤ 65536 }
 {
-    let mut buf = io::large_buffer();
-    files::read(fd, path, &mut buf)
+    let mut buf = [0u8; PIECE];
+    files::read(rt, file, path, &mut buf)
 }
 
 // How many bytes a log has, read until it ends or is too long.
-pub(crate) fn measure(fd: i32, path: &[u8]) -> Measured {
+pub(crate) fn measure<R: Eprint>(rt: &R, file: &mut File, path: &[u8]) -> Measured {
     let mut len: usize = 0;
     while window::log_answer(len) == answer::DONE {
-        let got = measure_some(fd, path);
+        let got = measure_some(rt, file, path);
         let more = got.count;
         if more == 0 {
             return Measured {
@@ -37,10 +40,7 @@ pub(crate) fn measure(fd: i32, path: &[u8]) -> Measured {
 }
 
 // Prints the answer to a log that is too long.
-pub(crate) fn put_too_long() {
-    io::write_all(STDOUT_FILENO, b"refused ");
-    io::print_decimal(STDOUT_FILENO, answer::LOG_TOO_LONG as u64);
-    io::write_all(STDOUT_FILENO, b": the log is over ");
-    io::print_decimal(STDOUT_FILENO, sealing::MAX_LOG as u64);
-    io::write_all(STDOUT_FILENO, b" bytes\n");
+pub(crate) fn put_too_long<R: Print>(rt: &R) {
+    let (why, most) = (answer::LOG_TOO_LONG, sealing::MAX_LOG);
+    let _ = println!(rt; "refused {why}: the log is over {most} bytes");
 }

@@ -6,8 +6,10 @@ ghost use Rattle.framing.specs.Kinds.{max_frame_plaintext};
 ghost use Rattle.framing.specs.Front.{front_of};
 
 use answer::DONE;
-use libc::STDOUT_FILENO;
 use messaging::Message;
+
+// Room for any line.
+const LINE: usize = 4096;
 
 // Room for the plaintext of any frame.
 fn scratch() -> [u8; framing::kind::MAX_PLAINTEXT]
@@ -71,12 +73,19 @@ fn frame_line(key: &[u8], held: &[u8], kind: u8, taken: usize, offset: u64, out:
 }
 
 // Prints the line of the frame at the front of held.
-pub(crate) fn put_frame(key: &[u8], held: &[u8], kind: u8, taken: usize, offset: usize)
+pub(crate) fn put_frame<R: Print>(
+    rt: &R,
+    key: &[u8],
+    held: &[u8],
+    kind: u8,
+    taken: usize,
+    offset: usize,
+)
     requires { front_of held.now ≡ Whole kind taken }
 {
-    let mut out = io::buffer();
+    let mut out = [0u8; LINE];
     let n = frame_line(key, held, kind, taken, offset as u64, &mut out);
-    io::write_all(STDOUT_FILENO, &out[..n]);
+    let _ = rt.write_all(&out[..n]);
 }
 
 // The last line, with what the stop reason means.
@@ -111,8 +120,8 @@ fn stop_line(reason: u8, offset: u64, frames: u64, out: &mut [u8]) -> usize
 }
 
 // Prints the last line.
-pub(crate) fn put_stop(reason: u8, offset: usize, frames: u64) {
-    let mut out = io::buffer();
+pub(crate) fn put_stop<R: Print>(rt: &R, reason: u8, offset: usize, frames: u64) {
+    let mut out = [0u8; LINE];
     let n = stop_line(reason, offset as u64, frames, &mut out);
-    io::write_all(STDOUT_FILENO, &out[..n]);
+    let _ = rt.write_all(&out[..n]);
 }

@@ -6,7 +6,11 @@ ghost use Rattle.framelog.specs.Place.{Sound, budget};
 
 use crate::lines::{put_frame, put_stop};
 use files::Got;
+use std::fs::File;
 use window::Step;
+
+// How many bytes of a log are held at a time: the longest frame is shorter.
+const WINDOW: usize = 4096;
 
 // Where the reader stands: the window holds from..to, and left more bytes are to be read; offset and frames
 // count what was reported.
@@ -21,11 +25,11 @@ struct Place {
 }
 
 // One read to where there is room for a byte at least, so that a count of 0 says that the log is at its end.
-fn read_some(fd: i32, path: &[u8], room: &mut [u8]) -> Got
+fn read_some<R: Eprint>(rt: &R, file: &mut File, path: &[u8], room: &mut [u8]) -> Got
     requires { 0 < length room.old }
     ensures { Read result room.new }
 {
-    files::read(fd, path, room)
+    files::read(rt, file, path, room)
 }
 
 // What is left to be read after a read of so many bytes: nothing, where it found the end.
@@ -37,13 +41,13 @@ fn left_after(left: usize, read: usize) -> usize
 }
 
 // Reads more of the log behind what the window holds, which has room. A file that has become shorter ends there.
-fn refill(fd: i32, path: &[u8], window: &mut [u8], p: Place) -> Place
+fn refill<R: Eprint>(rt: &R, file: &mut File, path: &[u8], window: &mut [u8], p: Place) -> Place
     requires { Sound p (length window.old) × (p.going ≡ true) × (0 < p.left) × (p.to - p.from < length window.old) }
     ensures { Sound result (length window.old) × (budget result < budget p) }
 {
     let held = window::slide(window, p.from, p.to);
     let end = held + octets::shorter(window.len() - held, p.left);
-    let got = read_some(fd, path, &mut window[held..end]);
+    let got = read_some(rt, file, path, &mut window[held..end]);
     let more = got.count;
     Place {
         from: 0,
@@ -56,7 +60,14 @@ fn refill(fd: i32, path: &[u8], window: &mut [u8], p: Place) -> Place
 }
 
 // One step: a frame's line, more of the log, or the last line.
-fn turn(fd: i32, path: &[u8], key: &[u8], window: &mut [u8], p: Place) -> Place
+fn turn<R: Print + Eprint>(
+    rt: &R,
+    file: &mut File,
+    path: &[u8],
+    key: &[u8],
+    window: &mut [u8],
+    p: Place,
+) -> Place
     requires { Sound p (length window.old) × (p.going ≡ true) }
     ensures { Sound result (length window.old) × (budget result < budget p) }
 {
@@ -64,7 +75,7 @@ fn turn(fd: i32, path: &[u8], key: &[u8], window: &mut [u8], p: Place) -> Place
     let to = p.to;
     match window::next_step(&window[from..to], p.left == 0) {
         Step::Frame { kind, taken } => {
-            put_frame(key, &window[from..to], kind, taken, p.offset);
+            put_frame(rt, key, &window[from..to], kind, taken, p.offset);
             Place {
                 from: from + taken,
                 to,
@@ -74,9 +85,9 @@ fn turn(fd: i32, path: &[u8], key: &[u8], window: &mut [u8], p: Place) -> Place
                 going: true,
             }
         }
-        Step::More => refill(fd, path, window, p),
+        Step::More => refill(rt, file, path, window, p),
         Step::End(reason) => {
-            put_stop(reason, p.offset, p.frames);
+            put_stop(rt, reason, p.offset, p.frames);
             Place {
                 from,
                 to,
@@ -90,10 +101,10 @@ fn turn(fd: i32, path: &[u8], key: &[u8], window: &mut [u8], p: Place) -> Place
 }
 
 // The frames of a log of so many bytes.
-pub(crate) fn walk(fd: i32, path: &[u8], key: &[u8], len: usize)
+pub(crate) fn walk<R: Print + Eprint>(rt: &R, file: &mut File, path: &[u8], key: &[u8], len: usize)
     requires { len ≤ max_log }
 {
-    let mut window = io::buffer();
+    let mut window = [0u8; WINDOW];
     let mut p = Place {
         from: 0,
         to: 0,
@@ -103,6 +114,6 @@ pub(crate) fn walk(fd: i32, path: &[u8], key: &[u8], len: usize)
         going: true,
     };
     while p.going {
-        p = turn(fd, path, key, &mut window, p);
+        p = turn(rt, file, path, key, &mut window, p);
     }
 }
