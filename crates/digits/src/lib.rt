@@ -1,6 +1,7 @@
 // Bytes as hex digits, numbers as decimal ones: the words of the line protocol. Every function takes any
 // bytes and answers for all of them. Assumes nothing.
 #![tactic(auto)]
+
 ghost use Rattle.std.specs.Prelude.{◌≡◌, ◌+◌, ◌*◌, ◌/◌, ◌%◌, min, length};
 ghost use Rattle.digits.specs.Text.{Put, digit, letter, is_hex, spelled, spelling, longer_by, number_of};
 

@@ -3,6 +3,7 @@
 // serves the judges' program alone. What that program takes from the words of a line and hands back is promised in full; of reading
 // and printing that it is safe and ends, since the stored run and the judges hold what is read and printed.
 #![tactic(auto)]
+
 pub mod input;
 mod parts;
 pub mod said;

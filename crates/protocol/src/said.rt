@@ -11,7 +11,8 @@ ghost use Rattle.protocol.specs.Said.{numbers_of, in_kind, with_bytes};
 
 use crate::parts;
 use crate::table::Request;
-use libc::STDOUT_FILENO;
+use std::io;
+use std::io::Write;
 
 // As many answers may wait as leave room for the longest one.
 const WAITING: usize = 350000;
@@ -132,7 +133,9 @@ fn hex(out: &mut [u8], at: usize, s: &[u8]) -> usize {
 // A number in decimal.
 fn number(out: &mut [u8], at: usize, n: u64) -> usize {
     let mut digits = [0u8; 20];
-    let k = io::decimal(n, &mut digits);
+    let mut rest: &mut [u8] = &mut digits;
+    let _ = write!(rest, "{n}");
+    let k = 20usize.saturating_sub(rest.len());
     text(out, at, &digits[..k])
 }
 
@@ -149,7 +152,9 @@ fn signed(out: &mut [u8], at: usize, bits: u64) -> usize {
 // A word in hex, all its digits.
 fn word(out: &mut [u8], at: usize, x: u64, digits: usize) -> usize {
     let mut spelled = [0u8; 16];
-    let k = io::hex(x, digits, &mut spelled);
+    let mut rest: &mut [u8] = &mut spelled;
+    let _ = write!(rest, "{x:0digits$x}");
+    let k = 16usize.saturating_sub(rest.len());
     text(out, at, &spelled[..k])
 }
 
@@ -224,13 +229,13 @@ fn alternative(form: &[u8], kind: usize) -> &[u8] {
 }
 
 // Ends an answer, and writes what waits where the next one might not fit behind it.
-fn line_end(out: &mut [u8], at: usize) -> usize {
+fn line_end<W: Write>(output: &mut W, out: &mut [u8], at: usize) -> io::Result<usize> {
     let next = byte(out, at, b'\n');
     if next < WAITING {
-        return next;
+        return Ok(next);
     }
-    write(out, next);
-    0
+    write(output, out, next)?;
+    Ok(0)
 }
 
 // What a call said, in the form that the table has for its request; `?` where that is none.
@@ -243,20 +248,22 @@ fn put(table: &[u8], q: Request, s: Said, space: &[u8], out: &mut [u8], at: usiz
     in_form(form, s, space, words.room, out, at)
 }
 
-// The answer to a request, a line behind the `at` bytes that wait in `out`: how many wait then.
-pub fn answered(
+// The answer to a request, a line behind the `at` bytes that wait in `out`: how many wait then, or the error of a write that
+// failed.
+pub fn answered<W: Write>(
+    output: &mut W,
     table: &[u8],
     q: Request,
     s: Said,
     space: &[u8],
     out: &mut [u8],
     at: usize,
-) -> usize {
+) -> io::Result<usize> {
     let next = put(table, q, s, space, out, at);
-    line_end(out, next)
+    line_end(output, out, next)
 }
 
 // Writes what waits.
-pub fn write(out: &[u8], at: usize) {
-    io::write_all(STDOUT_FILENO, parts::part(out, 0, at));
+pub fn write<W: Write>(output: &mut W, out: &[u8], at: usize) -> io::Result<()> {
+    output.write_all(parts::part(out, 0, at))
 }

@@ -68,7 +68,7 @@ fn row_of(table: &[u8], name: &[u8]) -> Row {
     while from < table.len() {
         let to = parts::find(table, from, table.len(), b'\n');
         let end = parts::find(table, from, to, b' ');
-        if check::same(parts::part(table, from, end), name) {
+        if parts::part(table, from, end) == name {
             return row_at(table, end, to);
         }
         from = to + 1;

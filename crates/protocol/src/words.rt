@@ -99,7 +99,7 @@ fn cipher_size(text: &[u8]) -> usize {
 
 // Whether a word says as many bytes as it should: hex, or `-` for none.
 fn is_bytes(text: &[u8], size: usize) -> bool {
-    if check::same(text, b"-") {
+    if text == b"-".as_slice() {
         return size == ANY;
     }
     if size == ANY {
@@ -170,13 +170,13 @@ fn at_most(largest: u64, said: Number) -> Number {
 
 // The routes by number: wide, narrow, rf.
 fn route_of(text: &[u8]) -> Number {
-    if check::same(text, b"wide") {
+    if text == b"wide".as_slice() {
         return Number::Is(0);
     }
-    if check::same(text, b"narrow") {
+    if text == b"narrow".as_slice() {
         return Number::Is(1);
     }
-    if check::same(text, b"rf") {
+    if text == b"rf".as_slice() {
         return Number::Is(2);
     }
     Number::No

@@ -7,6 +7,7 @@
 // (protocol/src/said), and what the arm says are numbers, and bytes that it put into the space. Then the second program
 // (tests/second/lines.py), the requests that are tried (tests/requests) and the stored run (tests/vectors) learn it too.
 #![tactic(auto)]
+
 mod arithmetic;
 mod frames;
 mod hashing;
@@ -18,9 +19,18 @@ use protocol::input::Reading;
 use protocol::said::Said;
 use protocol::table::Request;
 use protocol::{input, said, table, words};
+use std::io;
+use std::io::{Read, Write};
 
 // The bytes of a stored key: each power of H and its D value.
 const KEY: usize = 32 * feeding::POWERS;
+
+// What is read of the input at a time.
+fn piece_buffer() -> [u8; 65536]
+    ensures { 65536 ≡ length result }
+{
+    [0; 65536]
+}
 
 // The longest line that is a request.
 fn line_buffer() -> [u8; 300000]
@@ -56,17 +66,31 @@ fn carry_out(q: Request, arena: &[u8], space: &mut [u8]) -> Said {
 // The answer to the line that was read, behind the `at` bytes that wait in `out`: how many wait then. Until the answer is
 // printed there, the bytes of the line's words lie there. Once they do the line is needed no more, and its buffer is the space
 // that a call writes to.
-fn by_table(rows: &[u8], line: &mut [u8], r: Reading, out: &mut [u8], at: usize) -> usize {
+fn by_table<W: Write>(
+    output: &mut W,
+    rows: &[u8],
+    line: &mut [u8],
+    r: Reading,
+    out: &mut [u8],
+    at: usize,
+) -> io::Result<usize> {
     let q = table::understood(rows, KEY, line, r, out, at);
     let w = q.words;
     let room = w.room_in(line);
     let said = carry_out(q, words::arena(out, at), &mut line[0..room]);
-    said::answered(rows, q, said, line, out, at)
+    said::answered(output, rows, q, said, line, out, at)
 }
 
 // The requests, a row each: name, letters of its function and arm, letters of its words, form of its answer.
-fn answer(line: &mut [u8], r: Reading, out: &mut [u8], at: usize) -> usize {
+fn answer<W: Write>(
+    output: &mut W,
+    line: &mut [u8],
+    r: Reading,
+    out: &mut [u8],
+    at: usize,
+) -> io::Result<usize> {
     by_table(
+        output,
         b"product64 wp xx X,X\n\
           bmul32 wb yy Y\n\
           reverse64 wr x X\n\
@@ -100,26 +124,44 @@ fn answer(line: &mut [u8], r: Reading, out: &mut [u8], at: usize) -> usize {
     )
 }
 
-// Answers every line of standard input.
-fn run(piece: &mut [u8], line: &mut [u8], out: &mut [u8]) {
+// Answers every line of the input. Where a read fails, what waits is written before the error is handed back.
+fn run<R: Read, W: Write>(
+    input: &mut R,
+    output: &mut W,
+    piece: &mut [u8],
+    line: &mut [u8],
+    out: &mut [u8],
+) -> io::Result<()> {
     let mut r = Reading::start();
     let mut at = 0;
     let mut left = u64::MAX;
     while left > 0 {
-        r = input::next_line(piece, line, r);
+        r = match input::next_line(input, piece, line, r) {
+            Ok(next) => next,
+            Err(e) => {
+                said::write(output, out, at)?;
+                return Err(e);
+            }
+        };
         if r.over {
             left = 0;
         } else {
-            at = answer(line, r, out, at);
+            at = answer(output, line, r, out, at)?;
             left -= 1;
         }
     }
-    said::write(out, at);
+    said::write(output, out, at)
 }
 
-fn main() {
-    let mut piece = io::large_buffer();
+fn main(rt: HostRuntime) -> io::Result<()> {
+    let mut piece = piece_buffer();
     let mut line = line_buffer();
     let mut out = out_buffer();
-    run(&mut piece, &mut line, &mut out);
+    run(
+        &mut rt.stdin(),
+        &mut rt.stdout(),
+        &mut piece,
+        &mut line,
+        &mut out,
+    )
 }

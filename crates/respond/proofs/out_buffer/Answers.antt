@@ -3,11 +3,7 @@
 use Prim.Native.Nat.{ℕ}
 use mathlib.Core.Path.{sym}
 use lib.ListN.{length-replicate}
-use Rattle.respond.proofs.out_buffer.Statement.{statement}
-use Rattle.respond.proofs.out_buffer.Tie as tie
+use Rattle.respond.proofs.out_buffer.Goals as goal
 
-returns : tie.Need-returns
+pub returns : goal.returns
 returns c = sym (length-replicate {A = ℕ} 700000 0)
-
-pub out-buffer-spec : {M : Type 1} → statement M
-out-buffer-spec = tie.close (tie.spec returns)

@@ -3,11 +3,7 @@
 use Prim.Native.Nat.{ℕ}
 use mathlib.Core.Path.{sym}
 use lib.ListN.{length-replicate}
-use Rattle.respond.proofs.line_buffer.Statement.{statement}
-use Rattle.respond.proofs.line_buffer.Tie as tie
+use Rattle.respond.proofs.line_buffer.Goals as goal
 
-returns : tie.Need-returns
+pub returns : goal.returns
 returns c = sym (length-replicate {A = ℕ} 300000 0)
-
-pub line-buffer-spec : {M : Type 1} → statement M
-line-buffer-spec = tie.close (tie.spec returns)
