@@ -1,6 +1,7 @@
 // Document 01, "Feeding and joining" and "Cost": the types that its definitions speak of. The definitions are in specs/, the
 // theorems about them in proofs/. No function: the crates polyval, hash and join have the calls.
 #![tactic(auto)]
+
 use field::FieldElement;
 
 // How many powers a key holds.

@@ -2,6 +2,7 @@
 // front of a byte string and the scan of a log. Here stand the types and the numbers; the definitions are in
 // specs/, the theorems about them in proofs/. No code: the crate frame computes them.
 #![tactic(auto)]
+
 pub mod kind;
 pub mod position;
 

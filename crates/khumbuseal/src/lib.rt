@@ -2,6 +2,7 @@
 // lengths, and records as byte strings of a fixed size. include/khumbuseal.h declares the same functions.
 // Assumes of a caller what that header asks: pointers that hold for the lengths given, and no overlap.
 #![tactic(auto)]
+
 pub mod frames;
 pub mod ghashing;
 pub mod hashing;

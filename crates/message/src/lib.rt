@@ -1,6 +1,7 @@
 // Messages: writing a frame and reading one, as messaging defines them (document 01, "Frame"). What stands at
 // the front of a byte string is in the crate frame, sealing and opening are in siv. Assumes nothing.
 #![tactic(auto)]
+
 mod content;
 mod reading;
 mod writing;

@@ -1,6 +1,7 @@
 // Writing and reading a frame by document 01, "Frame". Here stand the types of the answers; the definitions are
 // in specs/, the theorems about them in proofs/. No code: the crate message computes them.
 #![tactic(auto)]
+
 use framing::position::Position;
 
 // What a reading answers: a position, a text with its length, or a check-in, each with the bytes that the frame

@@ -1,5 +1,6 @@
 // AES-GCM-SIV, RFC 8452 sections 4 and 5: sealing and opening with keys of 16 and 32 bytes.
 #![tactic(auto)]
+
 ghost use Rattle.std.specs.Prelude.{◌≡◌, cond, ◌++◌, ◌+◌, ◌≤◌, length, drop};
 ghost use Rattle.field.specs.Element.{value};
 ghost use Rattle.octets.specs.Strings.{same_bytes};
