@@ -35,9 +35,6 @@ module _ (c : In-Whole) where
 pub overflow_add-at : goal.overflow_add-at
 overflow_add-at c = omega (arith, inside (goal.at.overflow_add-at c).In-Whole)
 
-pub overflow_add-count : goal.overflow_add-count
-overflow_add-count c = omega arith
-
 pub loop-at-smaller : goal.loop-at-smaller
 loop-at-smaller c = omega (arith, inside (goal.at.loop-at-smaller c).In-Whole)
 

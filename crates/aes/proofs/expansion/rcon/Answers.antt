@@ -13,9 +13,6 @@ pub loop-k-init : goal.loop-k-init
 unfolding power
 loop-k-init c = (search rules, search rules, search rules, refl)
 
-pub overflow_mul-x : goal.overflow_mul-x
-overflow_mul-x c = omega arith
-
 pub loop-k-preserved : goal.loop-k-preserved
 unfolding ◌⊕◌
 loop-k-preserved c = let l = c.loop-k in (search rules, search rules, power_lt l.x l.k l.invariant.2 l.invariant.3, power_turn l.x l.k l.invariant.2 l.invariant.3 l.invariant.0)

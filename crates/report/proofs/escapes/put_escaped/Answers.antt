@@ -11,9 +11,6 @@ pub loop-i-init : goal.loop-i-init
 unfolding escaped
 loop-i-init c = (omega arith, omega arith, refl, omega arith, wrote_none _ _)
 
-pub put_shown-next-requires : goal.put_shown-next-requires
-put_shown-next-requires c = omega arith
-
 pub loop-i-preserved : goal.loop-i-preserved
 loop-i-preserved c =
     let l = c.loop-i.invariant in

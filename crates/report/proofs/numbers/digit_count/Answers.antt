@@ -6,12 +6,6 @@ use Rattle.report.proofs.numbers.digit_count.Goals as goal
 pub loop-rest-init : goal.loop-rest-init
 loop-rest-init c = (omega arith, omega arith, count_few 19 _ (omega arith))
 
-pub overflow_add-count : goal.overflow_add-count
-overflow_add-count c = omega arith
-
-pub loop-rest-smaller : goal.loop-rest-smaller
-loop-rest-smaller c = omega arith
-
 pub loop-rest-preserved : goal.loop-rest-preserved
 loop-rest-preserved c = (omega arith, omega (arith, leading_more c.args.n c.loop-rest.rest (omega arith) (omega arith)), omega arith)
 
