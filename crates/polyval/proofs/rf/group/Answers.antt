@@ -64,7 +64,7 @@ returns c =
     let s = a.s.now in
     let bytes = bytes_from s (λ i. (c.shared_slice_known-1.given i).fits) in
     let none : Power = record { h = element 0; d = element 0 } in
-    let sizes : Sizes a.powers = each_at (e_struct the_type the_laws the_copy).ty.own_val (λ p. Sized p.h × Sized p.d) a.powers _ start.well_formed.0.1.1 none (element_sized 0, element_sized 0) (λ p u t. (record { lo = omega (arith, t); hi = omega (arith, t) }, record { lo = omega (arith, t); hi = omega (arith, t) })) in
+    let sizes : Sizes a.powers = each_at (e_struct the_type the_laws the_copy).ty.own_val (λ p. Sized p.h × Sized p.d) none (element_sized 0, element_sized 0) (λ p u t. (record { lo = omega (arith, t); hi = omega (arith, t) }, record { lo = omega (arith, t); hi = omega (arith, t) })) a.powers _ start.well_formed.0.1.1 in
     c.rf_reduce.ensures
     ∙ ap rf_reduced (sym (group_end a.powers s l.i (value l.held) l.sum (omega arith)) ∙ l.invariant.4)
     ∙ group_steps (paired a.powers (joining (value a.acc.element) (blocks s)))
