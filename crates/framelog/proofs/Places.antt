@@ -9,9 +9,10 @@ use lib.Dec.{eqb, leb→le}
 use lib.ListN.{length, take, drop, length-drop}
 use lib.Seq.{length-take-le}
 use Rattle.framing.specs.Kinds.{table, max_frame_plaintext, longest_frame}
-use Rattle.window.specs.declared.Step.TheVariants.{More}
+use Rattle.framing.proofs.Whole.{IsWhole, whole_bounds}
+use Rattle.window.specs.declared.Step.TheVariants.{Frame, More}
 use Rattle.window.specs.Step.{step_of}
-use Rattle.window.proofs.InPieces.{more_has_room, last_decides}
+use Rattle.window.proofs.InPieces.{more_has_room, last_decides, reported_whole}
 use Rattle.window.specs.Slide.{Slid}
 use Rattle.framelog.specs.declared.walk.Place.{Place}
 use Rattle.framelog.specs.Place.{Sound, budget}
@@ -90,6 +91,17 @@ has_room_lem p window last sound e =
     let short = more_has_room last (take (p.to - p.from) (drop p.from window)) (sym e) in
     let l : length (take (p.to - p.from) (drop p.from window)) ≡ p.to - p.from = length-take-le _ _ (rw length-drop (omega (arith, sound.within))) in
     omega (arith, sound.longest)
+
+-- a frame that is reported stands whole in what is held, has 32 bytes at least, and ends there
+pub frame_held : (p : Place) (window : List ℕ) (last : Bool) (kind taken : ℕ) → Sound p (length window)
+    → Frame kind taken ≡ step_of last (take (p.to - p.from) (drop p.from window))
+    → IsWhole (take (p.to - p.from) (drop p.from window)) kind taken × (32 ≤ taken) × (taken ≤ p.to - p.from)
+frame_held p window last kind taken sound e =
+    let w = reported_whole last (take (p.to - p.from) (drop p.from window)) kind taken e in
+    let b = whole_bounds _ _ _ w in
+    let i = w.inside in
+    let l : length (take (p.to - p.from) (drop p.from window)) ≡ p.to - p.from = length-take-le _ _ (rw length-drop (omega (arith, sound.within))) in
+    (w, b.0, omega arith)
 
 -- a part of some bytes behind what is held
 pub some_bytes : (held more : ℕ) (window : List ℕ) → 0 < more → held + more ≤ length window → 0 < length (take (held + more - held) (drop held window))
