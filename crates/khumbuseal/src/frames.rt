@@ -193,7 +193,7 @@ pub extern "C" fn khumbuseal_position_from_bytes(
     alt: &mut i32,
     time: &mut u32,
 )
-    ensures { position_of bytes.now ≡ record { lat = lat.exit.now; lon = lon.new; alt = alt.new; time = time.new } }
+    ensures { position_of bytes.now ≡ record { lat = lat.new; lon = lon.new; alt = alt.new; time = time.new } }
 {
     let p = frame::position::from_bytes(*bytes);
     let a = p.lat;
