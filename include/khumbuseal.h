@@ -1,8 +1,8 @@
 /* Khumbuseal for C and C++: hashing (POLYVAL, GHASH), sealing (AES-GCM-SIV, RFC 8452), message frames.
 
-   Link with libkhumbuseal.a (`rt staticlib khumbuseal`), which is made for x86-64 Linux. It calls nothing but C's
-   memcpy, allocates nothing and keeps nothing between calls: two threads may call it at once on different memory.
-   docs/BENCH.md says how much stack each call needs, about 4 KiB at the most. Each function is proved to meet a contract that
+   Link with libkhumbuseal.a (`rt lib` in crates/khumbuseal), which is made for x86-64 Linux. It calls nothing but C's
+   memcpy and memset, allocates nothing and keeps nothing between calls: two threads may call it at once on different memory.
+   docs/BENCH.md says how much stack each call needs, about 5 KiB at the most. Each function is proved to meet a contract that
    fixes its result and every byte it may write (crates/khumbuseal/README.md); that this header declares the same
    functions is not proved (docs/TRUST.md).
 
