@@ -3,7 +3,7 @@ import re
 from dataclasses import dataclass
 
 HEAD = re.compile(r'^[ \t]*pub\s+(?:extern\s+"C"\s+)?fn\s+(\w+)', re.M)
-CLAUSE = re.compile(r"\s*(requires|ensures|ghost)(\s+[A-Za-z_]\w*)?\s*\{")
+CLAUSE = re.compile(r"\s*(requires\*?|ensures\*?|ghost)(\s+[A-Za-z_]\w*)?\s*:?\s*\{")
 IMPL = re.compile(r"^impl(?:<[^>]*>)?\s+([A-Za-z_]\w*)[^{]*\{", re.M)
 
 
@@ -22,11 +22,6 @@ class Call:
     def path(self):
         """As the compiler names it."""
         return f"{self.crate}::{self.module}{self.owner}{self.name}"
-
-    @property
-    def proof(self):
-        """Its proof's file in the crate, where it has one."""
-        return "proofs/" + (self.module + self.owner + self.name).replace("::", "/") + "/Proof.antt"
 
 
 def closing(text, at, pair):
@@ -54,12 +49,8 @@ def clauses(text, at):
 
 
 def names_result(body):
-    """Whether an `ensures` says something of its result, which its λ names last."""
-    head = re.match(r"λ\s+((?:\S+\s+)*?\S+?)\s*\.", body)
-    if not head:
-        return False
-    name = head.group(1).split()[-1]
-    return name == "_" or re.search(r"(?<!\w)" + re.escape(name) + r"(?!\w)", body[head.end():]) is not None
+    """Whether an `ensures` says something of its result."""
+    return re.search(r"(?<!\w)result(?!\w)", body) is not None
 
 
 def module_of(path):
@@ -83,7 +74,7 @@ def calls(path):
         parameters = [p for p in re.split(r",(?![^\[(]*[\])])", text[start + 1:end]) if p.strip()]
         answers = re.match(r"\s*->", text[end + 1:]) is not None
         found = list(clauses(text, end + 1))
-        promises = [body for word, body in found if word == "ensures"]
+        promises = [body for word, body in found if word.startswith("ensures")]
         type_of = owner(text, head.start())
-        yield Call(crate, home(path, type_of), type_of, head.group(1), sum(word == "requires" for word, _ in found), len(promises),
+        yield Call(crate, home(path, type_of), type_of, head.group(1), sum(word.startswith("requires") for word, _ in found), len(promises),
                    any(map(names_result, promises)) if answers else bool(promises), [i for i, p in enumerate(parameters) if re.search(r"&\s*mut\b", p)])
