@@ -1,8 +1,9 @@
-"""x86-64 code in a model: which instructions a program goes through, said by the kit's emulator, and the cycles that llvm-mca's model of a
-processor gives them. It needs llvm-nm, llvm-objdump and llvm-mca, and an emulator, which the kit has for processors other than x86-64."""
+"""x86-64 code in a model: which instructions a program goes through, said by an emulator, and the cycles that llvm-mca's model of a processor
+gives them. It needs llvm-nm, llvm-objdump, llvm-mca and qemu-x86_64 (Debian's llvm and qemu-user), none of which the kit has."""
 import collections
 import pathlib
 import re
+import shutil
 import subprocess
 
 ROOT = pathlib.Path(__file__).resolve().parent.parent
@@ -16,8 +17,8 @@ def kit(path):
     return pathlib.Path(said(ROOT / "tools/kit", path).strip())
 
 
-EMULATOR = kit("own/toolchain/bin/qemu-x86_64")
-LIBRARIES = kit("own/toolchain/lib")
+EMULATOR = shutil.which("qemu-x86_64")
+LIBRARIES = kit("toolchain/lib")
 
 
 def went_through(program, functions, room):

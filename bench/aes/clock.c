@@ -10,13 +10,13 @@
 
 enum { ROUNDS = 21, CALLS = 16, TEXT = 4096 };
 
-/* How the compiler passes a slice. */
+/* How the compiler passes a slice: two registers, as C passes this. */
 struct slice {
     const uint8_t *at;
     size_t len;
 };
 
-typedef void blocks(const struct slice *key, const struct slice *text, const struct slice *out);
+typedef void blocks(struct slice key, struct slice text, struct slice out);
 extern blocks rt_blocks128, rt_blocks256;
 
 static uint32_t load(const uint8_t *p)
@@ -71,16 +71,16 @@ static void encrypt(const uint32_t *w, int rounds, const uint8_t *in, uint8_t *o
     store(out + 12, sub(d, a, b, c) ^ w[3]);
 }
 
-static void plain(int nk, int rounds, const struct slice *key, const struct slice *text, const struct slice *out)
+static void plain(int nk, int rounds, struct slice key, struct slice text, struct slice out)
 {
     uint32_t w[60];
-    expand(key->at, nk, rounds, w);
-    for (size_t i = 0; i + 16 <= text->len; i += 16)
-        encrypt(w, rounds, text->at + i, (uint8_t *)out->at + i);
+    expand(key.at, nk, rounds, w);
+    for (size_t i = 0; i + 16 <= text.len; i += 16)
+        encrypt(w, rounds, text.at + i, (uint8_t *)out.at + i);
 }
 
-static void plain128(const struct slice *key, const struct slice *text, const struct slice *out) { plain(4, 10, key, text, out); }
-static void plain256(const struct slice *key, const struct slice *text, const struct slice *out) { plain(8, 14, key, text, out); }
+static void plain128(struct slice key, struct slice text, struct slice out) { plain(4, 10, key, text, out); }
+static void plain256(struct slice key, struct slice text, struct slice out) { plain(8, 14, key, text, out); }
 
 static double now(void)
 {
@@ -110,7 +110,7 @@ static void compare(const char *what, blocks *c, blocks *ours)
             struct slice k = {key, c == plain128 ? 16 : 32}, t = {text, TEXT}, o = {out[v], TEXT};
             double start = now();
             for (int n = 0; n < CALLS; n++)
-                who[v](&k, &t, &o);
+                who[v](k, t, o);
             times[v][r] = (now() - start) / CALLS;
         }
     if (memcmp(out[0], out[1], TEXT)) {
