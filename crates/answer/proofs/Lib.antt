@@ -1,3 +1,4 @@
 -- The laws of `first`, and the numbers.
 pub mod First
 pub mod Cases
+pub mod Reasons
