@@ -2,3 +2,4 @@
 pub mod First
 pub mod Cases
 pub mod Reasons
+pub mod Unique
