@@ -6,6 +6,7 @@ pub mod WordBytes
 pub mod XorBytes
 pub mod Parts
 pub mod Copies
+pub mod Endian
 pub mod Same
 pub mod Places
 pub mod Unique

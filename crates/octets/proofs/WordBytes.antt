@@ -8,7 +8,7 @@ use Rattle.octets.specs.Numbers.{number, bytes_of}
 use Rattle.octets.specs.Joined.{Joined}
 use Rattle.octets.proofs.Numbers.{Bytes, bytes_of-number, bytes_of-length, bytes_of_bytes, bytes_++, number_++, bytes_of_++, cells, cells_all}
 
-joined_by : (bs : List ℕ) (r : ℕ) → Bytes bs → r ≡ number bs → Joined bs r
+pub joined_by : (bs : List ℕ) (r : ℕ) → Bytes bs → r ≡ number bs → Joined bs r
 joined_by bs r h e = record { value = e; back = ap (bytes_of (length bs)) e ∙ bytes_of-number bs h }
 
 pub joined16 : (a b : ℕ) → a < 256 → b < 256 → Joined (a ∷ b ∷ []) (a + b * 256)
