@@ -1,12 +1,14 @@
 -- What the words of the line protocol say: bytes as two lower-case hex digits each, the high one first; numbers as decimal digits,
 -- any count of leading zeros allowed, below 2^64. Assumes nothing.
-use Rattle.std.specs.Prelude.{ℕ, ◌+◌, ◌-◌, ◌*◌, ◌/◌, ◌%◌, ◌^◌, Bool, true, false, cond, ◌&&◌, ◌≡◌, List, [], ◌∷◌, ◌++◌, leb, ltb, eqb, length, take, drop}
-use Rattle.digits.specs.declared.Number.{Number}
-use Rattle.digits.specs.declared.Number.TheVariants.{Is, No}
+use Rattle.std.specs.Prelude.{ℕ, ◌+◌, ◌-◌, ◌*◌, ◌/◌, ◌%◌, ◌^◌, Bool, true, false, cond, ◌&&◌, ◌≡◌, List, [], ◌∷◌, ◌++◌, leb, ltb, eqb, length, take, drop, Option, Some, None}
 
 -- the value of `0` to `9` and `a` to `f`; 16 for every other byte
 abbrev pub digit : ℕ → ℕ
 digit b = cond (leb 48 b && ltb b 58) (b - 48) (cond (leb 97 b && ltb b 103) (b - 87) 16)
+
+-- the same as a call says it: none where there is no digit
+abbrev pub digit_of : ℕ → Option ℕ
+digit_of b = cond (ltb (digit b) 16) (Some (digit b)) None
 
 -- the hex digit of the low four bits of n
 abbrev pub letter : ℕ → ℕ
@@ -50,12 +52,12 @@ followed v (b ∷ s) = followed (v * 10 + (b - 48)) s
 abbrev pub is_number : List ℕ → Bool
 is_number s = ltb 0 (length s) && (all_decimal s && ltb (followed 0 s) (2 ^ 64))
 
-abbrev pub number_of : List ℕ → Number
-number_of s = cond (is_number s) (Is (followed 0 s)) No
+abbrev pub number_of : List ℕ → Option ℕ
+number_of s = cond (is_number s) (Some (followed 0 s)) None
 
 -- the number v with one more digit behind it, where b is one and the number fits
-abbrev pub longer_by : ℕ → ℕ → Number
-longer_by v b = cond (is_decimal b && ltb (v * 10 + (b - 48)) (2 ^ 64)) (Is (v * 10 + (b - 48))) No
+abbrev pub longer_by : ℕ → ℕ → Option ℕ
+longer_by v b = cond (is_decimal b && ltb (v * 10 + (b - 48)) (2 ^ 64)) (Some (v * 10 + (b - 48))) None
 
 -- a call put the first n of `made` at the front of a lent buffer, left what follows, and answered n
 pub record Put (answer n : ℕ) (made entry exit : List ℕ) : Type 0 where
@@ -67,6 +69,6 @@ pub record Values : Type 0 where
   pub is : Bool
   pub value : ℕ
 
-abbrev pub values_of : Number → Values
-values_of (Is n) = record { is = true; value = n }
-values_of No = record { is = false; value = 0 }
+abbrev pub values_of : Option ℕ → Values
+values_of (Some n) = record { is = true; value = n }
+values_of None = record { is = false; value = 0 }
