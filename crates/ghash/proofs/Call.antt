@@ -17,10 +17,8 @@ use Rattle.rfc8452.specs.Machine.{run, polyval}
 use Rattle.rfc8452.specs.Blocks.{blocks}
 use Rattle.rfc8452.proofs.Run.{run_lt}
 use Rattle.ghash.specs.declared.parts.Ghash.{Ghash}
-use Rattle.ghash.specs.declared.parts.Started.{Started}
-use Rattle.ghash.specs.declared.Hashed.{Hashed}
 use Rattle.rfc8452.specs.AppendixA.{reversed, key_for}
-use Rattle.ghash.specs.Calls.{ghash_start_of, fed_of, ghash_tag_of, hashed_of}
+use Rattle.ghash.specs.Calls.{ghash_start_of, fed_of, ghash_tag_of, hashed_of, Started, Hashed}
 use Rattle.rfc8452.proofs.Reversed.{reversed_lt}
 
 pub key_for_lt : (key : List ℕ) → key_for key < 2 ^ 128
@@ -44,16 +42,6 @@ module _ (key s : List ℕ) where
       cond (eqb (cond (not t) key_length (cond (not u) not_whole_blocks done)) done) (record { answer = done; tag = tag })
       (record { answer = cond (not t) key_length (cond (not u) not_whole_blocks done); tag = replicate 16 0 })
 
-  refused_by : (t u : Bool) → ((start_by t).answer ≡ done → ⊥) → ◌≡◌ {A = Hashed} (record { answer = (start_by t).answer; tag = replicate 16 0 }) (hashed_by t u)
-  unfolding start_by hashed_by
-  refused_by true u n = absurd (n refl)
-  refused_by false u n = refl
-
-  -- start has refused
-  pub start_refused : ((ghash_start_of key).answer ≡ done → ⊥) → ◌≡◌ {A = Hashed} (record { answer = (ghash_start_of key).answer; tag = replicate 16 0 }) (hashed_of key s)
-  unfolding start_by hashed_by
-  start_refused n = refused_by (eqb (length key) 16) (eqb (length s % 16) 0) n
-
   accepted_by : (t : Bool) → (start_by t).answer ≡ done → t ≡ true
   unfolding start_by
   accepted_by true e = refl
@@ -62,11 +50,6 @@ module _ (key s : List ℕ) where
   accepted : (ghash_start_of key).answer ≡ done → eqb (length key) 16 ≡ true
   unfolding start_by
   accepted e = accepted_by (eqb (length key) 16) e
-
-  -- start has not, and the blocks are not whole
-  pub not_whole : (ghash_start_of key).answer ≡ done → eqb (length s % 16) 0 ≡ false → ◌≡◌ {A = Hashed} (record { answer = not_whole_blocks; tag = replicate 16 0 }) (hashed_of key s)
-  unfolding hashed_by
-  not_whole e u = sym (ap₂ hashed_by (accepted e) u)
 
   -- the hash
   fed_tag : ghash_tag_of (fed_of begun s) ≡ tag

@@ -13,8 +13,7 @@ use Rattle.rfc8452.specs.Machine.{polyval}
 use Rattle.rfc8452.specs.Blocks.{blocks}
 use Rattle.sp800_38d.specs.Ghash.{ghash_of, bit_string, bit_blocks}
 use Rattle.rfc8452.specs.AppendixA.{reversed, key_for}
-use Rattle.ghash.specs.Calls.{hashed_of, nist_of}
-use Rattle.ghash.specs.declared.Hashed.{Hashed}
+use Rattle.ghash.specs.Calls.{hashed_of, nist_of, Hashed}
 use Rattle.sp800_38d.proofs.Equal.{ghash_is}
 
 -- the call's promise, in SP 800-38D's own terms

@@ -1,7 +1,9 @@
 -- GHASH by way of POLYVAL (RFC 8452, appendix A; document 01, "Field"): the byte reverse of POLYVAL under mulx(reverse(H)) of the reversed blocks. Assumes nothing.
-use Rattle.std.specs.Prelude.{ℕ, ◌%◌, cond, not, List, [], ◌∷◌, reverse, map, eqb, length, replicate}
+use Rattle.std.specs.Prelude.{ℕ, ◌%◌, cond, not, List, [], ◌∷◌, reverse, map, eqb, length, replicate, Result, Ok, Err}
 use Rattle.answer.specs.Answers.{done, key_length, not_whole_blocks}
 use Rattle.answer.specs.First.{first, ◌⇒◌}
+use Rattle.answer.specs.Reasons.{number_of}
+use Rattle.answer.specs.declared.Reason.{Reason}
 use Rattle.octets.specs.Numbers.{bytes_of}
 use Rattle.field.specs.Element.{value, element}
 use Rattle.rfc8452.specs.Machine.{run, polyval}
@@ -9,8 +11,25 @@ use Rattle.rfc8452.specs.Blocks.{blocks}
 use Rattle.rfc8452.specs.AppendixA.{reversed, key_for}
 use Rattle.sp800_38d.specs.Ghash.{ghash_of, bit_string, bit_blocks}
 use Rattle.ghash.specs.declared.parts.Ghash.{Ghash}
-use Rattle.ghash.specs.declared.parts.Started.{Started}
-use Rattle.ghash.specs.declared.Hashed.{Hashed}
+
+-- the answer of start, and the record that it made: zeros where the answer is not 0
+pub record Started : Type 0 where
+  pub answer : ℕ
+  pub ghash : Ghash
+
+-- the answer of a whole hash, and its 16 bytes: zeros where the answer is not 0
+pub record Hashed : Type 0 where
+  pub answer : ℕ
+  pub tag : List ℕ
+
+-- what a call of code returned, told so
+abbrev pub start_told : Result Ghash Reason → Started
+start_told (Ok ghash) = record { answer = done; ghash = ghash }
+start_told (Err reason) = record { answer = number_of reason; ghash = record { key = element 0; acc = element 0 } }
+
+abbrev pub hashed_told : Result (List ℕ) Reason → Hashed
+hashed_told (Ok tag) = record { answer = done; tag = tag }
+hashed_told (Err reason) = record { answer = number_of reason; tag = replicate 16 0 }
 
 abbrev pub ghash_start_answer : (key : List ℕ) → ℕ
 ghash_start_answer key = first (not (eqb (length key) 16) ⇒ key_length ∷ [])

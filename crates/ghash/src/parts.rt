@@ -1,7 +1,8 @@
 // The record of a GHASH in parts: POLYVAL's machine on reversed blocks.
 ghost use Rattle.std.specs.Prelude.{◌≡◌};
-ghost use Rattle.ghash.specs.Calls.{ghash_start_of, fed_of, ghash_tag_of};
+ghost use Rattle.ghash.specs.Calls.{ghash_start_of, start_told, fed_of, ghash_tag_of};
 
+use answer::Reason;
 use field::FieldElement;
 use polyval::{block, soft};
 
@@ -12,56 +13,35 @@ pub struct Ghash {
     pub acc: FieldElement,
 }
 
-// The answer of start, and the record that it made.
-#[derive(Clone, Copy)]
-pub struct Started {
-    pub answer: u8,
-    pub ghash: Ghash,
-}
-
 impl Ghash {
     // A record under a key of 16 bytes, with nothing absorbed.
-    pub fn start(key: &[u8]) -> Started
-        ensures { result ≡ ghash_start_of key.now }
+    pub fn start(key: &[u8]) -> Result<Ghash, Reason>
+        ensures { start_told result ≡ ghash_start_of key.now }
     {
         if key.len() != 16 {
-            return Started {
-                answer: answer::KEY_LENGTH,
-                ghash: Ghash {
-                    key: FieldElement::ZERO,
-                    acc: FieldElement::ZERO,
-                },
-            };
+            return Err(Reason::KeyLength);
         }
-        Started {
-            answer: answer::DONE,
-            ghash: Ghash {
-                key: block::block_of(key).reverse().mulx(),
-                acc: FieldElement::ZERO,
-            },
-        }
+        Ok(Ghash {
+            key: block::block_of(key).reverse().mulx(),
+            acc: FieldElement::ZERO,
+        })
     }
 
     // The blocks of s, the last short one filled with zeros.
     pub fn feed_padded(self, s: &[u8]) -> Ghash
         ensures { result ≡ fed_of self s.now }
     {
-        let key = self.key;
         let mut acc = self.acc;
-        let mut i = 0;
-        while i < s.len() {
-            let x = block::block_at(s, i).reverse();
-            acc = soft::step(key, acc, x);
-            i += 16;
+        for part in s.chunks(16) {
+            acc = soft::step(self.key, acc, block::block_of(part).reverse());
         }
-        Ghash { key, acc }
+        Ghash { acc, ..self }
     }
 
     // The hash of all that was fed. The record is as it was.
     pub fn finish(self) -> [u8; 16]
         ensures { result ≡ ghash_tag_of self }
     {
-        let acc = self.acc;
-        acc.reverse().to_bytes()
+        self.acc.reverse().to_bytes()
     }
 }

@@ -1,10 +1,10 @@
 -- `ghash::parts::Ghash::feed_padded` meets its contract. Assumes nothing.
-use Prim.Native.Nat.{ℕ, ◌+◌}
+use Prim.Native.Nat.{ℕ, ◌≤◌, min}
 use mathlib.Core.Path.{◌≡◌, refl, sym, ap, ◌∙◌}
 use mathlib.Core.List.{map}
 use native.Mathlib.Omega.{arith}
-use borrow.Author.Rules.{rules}
-use lib.ListN.{drop, take}
+use lib.ListN.{length}
+use lib.Seq.{take_all}
 use Rattle.octets.specs.Numbers.{number}
 use Rattle.field.specs.Element.{value, element}
 use Rattle.field.proofs.Element.{value_of, element_value}
@@ -20,28 +20,35 @@ use Rattle.ghash.proofs.parts.Ghash.feed_padded.Goals.{Start}
 held : (c : Start) → c.args.self.acc ≡ element (value c.args.self.acc)
 held c = sym (element_value c.args.self.acc (record { lo = omega arith; hi = omega arith }))
 
-pub loop-i-init : goal.loop-i-init
-loop-i-init c = (search rules, held (goal.at.loop-i-init c).Start, refl)
+pub loop-part-init : goal.loop-part-init
+loop-part-init c = record {
+  sixteen = cc;
+  an_element = held (goal.at.loop-part-init c).Start;
+  left = cc;
+}
 
-pub loop-i-preserved : goal.loop-i-preserved
-loop-i-preserved c =
-    let l = c.loop-i in
-    let a = c.args in
-    let s = a.s.now in
-    let K : ℕ = value a.self.key in
-    let x : ℕ = number (take 16 (drop l.i s)) in
-    let b = c.block_at in
-    let x-is = value_of (reversed (value b.result)) (reversed_lt (value b.result)) c.reverse-x.ensures ∙ ap reversed b.ensures.whole in
+pub loop-part-preserved : goal.loop-part-preserved
+loop-part-preserved c =
+    let l = c.loop-part in
+    let K : ℕ = value c.args.self.key in
+    let s = l.part-iterator.rest.now in
+    let part = c.in-Some.part.now in
+    let turn = c.in-Some.ensures.steps in
+    let long : length part ≡ min 16 (length s) = turn.1.1 ∙ ap (λ n. min n (length s)) l.invariant.sixteen in
+    let x : ℕ = reversed (number part) in
+    let b = c.block_of in
+    let x-is = value_of (reversed (value b.result)) (reversed_lt (value b.result)) c.reverse.ensures ∙ ap reversed (b.ensures.whole ∙ ap number (take_all 16 part (omega (arith, long)))) in
     let next = c.step-acc.ensures ∙ ap (λ n. element (step K (value l.acc) n)) x-is in
-    let next_is : value c.step-acc.result ≡ step K (value l.acc) (reversed x) = value_of (step K (value l.acc) (reversed x)) (step_lt K (value l.acc) (reversed x)) next in (
-      omega arith,
-      next ∙ ap element (sym next_is),
-      ap (λ n. run K n (map reversed (blocks (drop (l.i + 16) s)))) next_is ∙ sym (fed_turn K (value l.acc) s l.i c.loop-i-test.true) ∙ l.invariant.2,
-    )
+    let next_is = value_of (step K (value l.acc) x) (step_lt K (value l.acc) x) next in
+    record {
+      sixteen = turn.0 ∙ l.invariant.sixteen;
+      an_element = next ∙ ap element (sym next_is);
+      left = ap (λ n. run K n (map reversed (blocks c.next.new.self.rest.now))) next_is ∙ sym (fed_turn K (value l.acc) s part c.next.new.self.rest.now turn.1.0 long turn.1.2) ∙ l.invariant.left;
+    }
 
 pub returns : goal.returns
 returns c =
-    let l = c.loop-i in
-    let a = c.args in
-    let acc = l.invariant.1 ∙ ap element (sym (fed_none (value a.self.key) (value l.acc) a.s.now l.i (omega arith)) ∙ l.invariant.2) in
-    λ i. record { key = a.self.key; acc = acc i }
+    let l = c.loop-part in
+    let none = c.in-None.ensures.steps in
+    let sum_is = sym (fed_none (value c.args.self.key) (value l.acc) l.part-iterator.rest.now none.1.0) ∙ l.invariant.left in
+    λ i. record { key = c.args.self.key; acc = (l.invariant.an_element ∙ ap element sum_is) i }
