@@ -4,8 +4,8 @@ use mathlib.Core.Path.{◌≡◌, refl, sym, ap, ◌∙◌, subst}
 use mathlib.Core.List.{List, [], ◌∷◌, ◌++◌, append_assoc}
 use native.Mathlib.Nat.{add-zero, add_assoc}
 use native.Mathlib.Numerals.{add-one}
-use mathlib.Core.Bool.{Bool, true, false, cond}
-use borrow.Author.Tests.{le-leb, lt-leb}
+use mathlib.Core.Bool.{Bool, true, cond}
+use borrow.Author.Tests.{le-leb}
 use lib.ListN.{length, get_or, set, take, drop, length-append, take-append-drop}
 use lib.Seq.{set_split, length-take-le, take_at, drop_at, drop-drop, take-suc}
 use Rattle.octets.specs.Places.{placed, Wrote, has_room, Puts}
@@ -66,13 +66,3 @@ pub put_wrote : {out s out' : List ℕ} {at next : ℕ} → at + length s ≤ le
 put_wrote {out} {s} {out'} {at} {next} h p =
     let e : has_room out at s ≡ true = le-leb _ _ h in
     record { out_is = p.out_is ∙ ap (λ (b : Bool). cond b (placed out at s) out) e; next_is = p.next_is ∙ ap (λ (b : Bool). cond b (at + length s) at) e }
-
-pub wrote_put : {out s out' : List ℕ} {at next : ℕ} → at + length s ≤ length out → Wrote out at s out' next → Puts out at s out' next
-wrote_put {out} {s} {out'} {at} {next} h w =
-    let e : true ≡ has_room out at s = sym (le-leb _ _ h) in
-    record { out_is = w.out_is ∙ ap (λ (b : Bool). cond b (placed out at s) out) e; next_is = w.next_is ∙ ap (λ (b : Bool). cond b (at + length s) at) e }
-
-pub no_room_lem : (out s : List ℕ) (at : ℕ) → length out < at + length s → Puts out at s out at
-no_room_lem out s at h =
-    let e : false ≡ has_room out at s = sym (lt-leb _ _ h) in
-    record { out_is = ap (λ (b : Bool). cond b (placed out at s) out) e; next_is = ap (λ (b : Bool). cond b (at + length s) at) e }

@@ -1,6 +1,6 @@
 -- Laws of `same_bytes`, and of the differences that a loop gathers. Assumes nothing.
 use Prim.Native.Nat.{ℕ, zero, suc, ◌+◌, ◌<◌}
-use mathlib.Core.Path.{◌≡◌, refl, sym, ap, ◌∙◌}
+use mathlib.Core.Path.{◌≡◌, refl, sym, ap, ap₂, ◌∙◌}
 use mathlib.Core.List.{List, [], ◌∷◌}
 use mathlib.Core.Bool.{Bool, true, false, cond}
 use native.Mathlib.Nat.{not-suc-le-zero, le_of_suc-le-suc}
@@ -45,9 +45,12 @@ pub start : (a b : List ℕ) → eqb 0 0 ≡ same_bytes (take 0 a) (take 0 b)
 unfolding same_bytes
 start a b = refl
 
-pub turn : (a b : List ℕ) (i d : ℕ) → i < length a → i < length b → eqb d 0 ≡ same_bytes (take i a) (take i b)
-    → eqb (bit_or d (bit_xor (get_or a i 0) (get_or b i 0))) 0 ≡ same_bytes (take (i + 1) a) (take (i + 1) b)
-turn a b i d h k e = gather d (get_or a i 0) (get_or b i 0) _ _ e refl ∙ sym (ap (λ (n : ℕ). same_bytes (take n a) (take n b)) (add-one i) ∙ grown a b i h k)
+-- a turn, of the bytes at place i
+pub turn : (a b : List ℕ) (i d : ℕ) {x y n : ℕ} → i < length a → i < length b → x ≡ get_or a i 0 → y ≡ get_or b i 0 → n ≡ i + 1
+    → eqb d 0 ≡ same_bytes (take i a) (take i b) → eqb (bit_or d (bit_xor x y)) 0 ≡ same_bytes (take n a) (take n b)
+turn a b i d h k ex ey en e =
+    ap₂ (λ x y. eqb (bit_or d (bit_xor x y)) 0) ex ey ∙ gather d (get_or a i 0) (get_or b i 0) _ _ e refl
+    ∙ sym (ap (λ (n : ℕ). same_bytes (take n a) (take n b)) (en ∙ add-one i) ∙ grown a b i h k)
 
 -- it says yes exactly where the two are equal
 pub same_is : (a b : List ℕ) → same_bytes a b ≡ true → a ≡ b

@@ -19,24 +19,19 @@ pub fn shorter(a: usize, b: usize) -> usize
 pub fn xor_into(pad: &[u8], text: &mut [u8])
     ensures { text.new ≡ xor_bytes text.old pad.now }
 {
-    let n = shorter(pad.len(), text.len());
-    let mut i = 0;
-    while i < n {
-        text[i] = text[i] ^ pad[i];
-        i += 1;
+    // By place: of what a zip over iter_mut has written a proof knows nothing.
+    for i in 0..pad.len().min(text.len()) {
+        text[i] ^= pad[i];
     }
 }
 
 // Copies src over the front of dst, as much of it as fits. The rest of dst stays.
+#[tactic(auto, using(crate::proofs::Copies::copy_reached))]
 pub fn copy(src: &[u8], dst: &mut [u8])
     ensures { dst.new ≡ copied src.now dst.old }
 {
-    let n = shorter(src.len(), dst.len());
-    let mut i = 0;
-    while i < n {
-        dst[i] = src[i];
-        i += 1;
-    }
+    let n = src.len().min(dst.len());
+    dst[..n].copy_from_slice(&src[..n]);
 }
 
 // Reads all 16 bytes, whatever the first ones are, and branches on none of them. Nothing is proved of how long it takes.
@@ -44,10 +39,8 @@ pub fn same_tag(a: [u8; 16], b: [u8; 16]) -> bool
     ensures { result ≡ same_bytes a b }
 {
     let mut differences: u8 = 0;
-    let mut i = 0;
-    while i < 16 {
-        differences = differences | (a[i] ^ b[i]);
-        i += 1;
+    for (x, y) in a.iter().zip(&b) {
+        differences |= x ^ y;
     }
     differences == 0
 }
@@ -57,11 +50,10 @@ pub fn same_tag(a: [u8; 16], b: [u8; 16]) -> bool
 pub fn put(out: &mut [u8], at: usize, s: &[u8]) -> usize
     ensures { Puts out.old at s.now out.new result }
 {
-    if at <= out.len() {
-        if s.len() <= out.len() - at {
-            copy(s, &mut out[at..]);
-            return at + s.len();
-        }
+    if at <= out.len() && s.len() <= out.len() - at {
+        let next = at + s.len();
+        out[at..next].copy_from_slice(s);
+        return next;
     }
     at
 }
