@@ -2,6 +2,7 @@
 -- Assumes nothing.
 use mathlib.Core.Path.{sym, ◌∙◌}
 use Rattle.logic.specs.Promise.{Unique}
+use Rattle.aead.proofs.Answered.{one_answer}
 use Rattle.aead.proofs.cipher.Cipher.short_key.Kinds as short_key_kinds
 use Rattle.aead.proofs.cipher.Cipher.short_key.Reads as short_key_reads
 use Rattle.aead.proofs.cipher.Cipher.long_key.Kinds as long_key_kinds
@@ -10,10 +11,10 @@ use Rattle.aead.proofs.cipher.Cipher.under.Kinds as under_kinds
 use Rattle.aead.proofs.cipher.Cipher.under.Reads as under_reads
 use Rattle.aead.proofs.cipher.Cipher.encrypt.Kinds as encrypt_kinds
 use Rattle.aead.proofs.cipher.Cipher.encrypt.Reads as encrypt_reads
-use Rattle.aead.proofs.lengths.seal_refusal.Kinds as seal_refusal_kinds
-use Rattle.aead.proofs.lengths.seal_refusal.Reads as seal_refusal_reads
-use Rattle.aead.proofs.lengths.open_refusal.Kinds as open_refusal_kinds
-use Rattle.aead.proofs.lengths.open_refusal.Reads as open_refusal_reads
+use Rattle.aead.proofs.lengths.check_seal.Kinds as check_seal_kinds
+use Rattle.aead.proofs.lengths.check_seal.Reads as check_seal_reads
+use Rattle.aead.proofs.lengths.check_open.Kinds as check_open_kinds
+use Rattle.aead.proofs.lengths.check_open.Reads as check_open_reads
 
 pub short_key_unique : Unique 0 short_key_kinds.ps short_key_kinds.r short_key_reads.Post
 short_key_unique κs a x y e f p q = p ∙ sym q
@@ -27,8 +28,8 @@ under_unique κs a x y e f p q = p ∙ sym q
 pub encrypt_unique : Unique 0 encrypt_kinds.ps encrypt_kinds.r encrypt_reads.Post
 encrypt_unique κs a x y e f p q = p ∙ sym q
 
-pub seal_refusal_unique : Unique 0 seal_refusal_kinds.ps seal_refusal_kinds.r seal_refusal_reads.Post
-seal_refusal_unique κs a x y e f p q = p ∙ sym q
+pub check_seal_unique : Unique 0 check_seal_kinds.ps check_seal_kinds.r check_seal_reads.Post
+check_seal_unique κs a x y e f p q = one_answer x y (p ∙ sym q)
 
-pub open_refusal_unique : Unique 0 open_refusal_kinds.ps open_refusal_kinds.r open_refusal_reads.Post
-open_refusal_unique κs a x y e f p q = p ∙ sym q
+pub check_open_unique : Unique 0 check_open_kinds.ps check_open_kinds.r check_open_reads.Post
+check_open_unique κs a x y e f p q = one_answer x y (p ∙ sym q)

@@ -8,10 +8,14 @@ ghost use Rattle.modes.specs.Mode.{sealed_by, tag_of};
 ghost use Rattle.aead.specs.Cipher.{encrypted};
 ghost use Rattle.rfc8452.specs.Counter.{mask_under};
 ghost use Rattle.rfc8452.specs.Tag.{tag_under};
+ghost use Rattle.answer.specs.Answers.{done, tag_differs};
+ghost use Rattle.answer.specs.Reasons.{answer_of};
+ghost use Rattle.sealing.specs.Calls.{written};
 ghost use Rattle.sealing.specs.Siv.{Seals, Opens};
 
 use aead::cipher::Cipher;
 use aead::lengths;
+use answer::Reason;
 use siv_parts::keys::Keys;
 use siv_parts::{counter, keys, tag};
 
@@ -65,7 +69,7 @@ fn is_authentic(keys: Keys, nonce: [u8; 12], ad: &[u8], body: &[u8], tag: [u8; 1
     octets::same_tag(tag::body_tag(keys, nonce, ad, tag, body), tag)
 }
 
-// The text that a body hides goes to the front of out, once its tag has agreed; else out stays as it was. Answers which.
+// The text that a body hides goes to the front of out, once its tag has agreed; else out stays as it was.
 fn put_opened(
     keys: Keys,
     nonce: [u8; 12],
@@ -73,53 +77,50 @@ fn put_opened(
     body: &[u8],
     tag: [u8; 16],
     out: &mut [u8],
-) -> bool
+) -> Result<(), Reason>
     requires { length body.now ≤ length out.old }
-    ensures answer { result ≡ same_bytes (tag_under (value keys.hash) (encrypted keys.cipher) nonce ad.now (mask_under (encrypted keys.cipher) tag body.now)) tag }
-    ensures memory { out.new ≡ cond result (mask_under (encrypted keys.cipher) tag body.now ++ drop (length body.now) out.old) out.old }
+    ensures answer { answer_of result ≡ cond (same_bytes (tag_under (value keys.hash) (encrypted keys.cipher) nonce ad.now (mask_under (encrypted keys.cipher) tag body.now)) tag) done tag_differs }
+    ensures memory { out.new ≡ written (answer_of result) (mask_under (encrypted keys.cipher) tag body.now) out.old }
 {
-    if is_authentic(keys, nonce, ad, body, tag) {
-        let cipher = keys.cipher;
-        put_masked(cipher, tag, body, out);
-        return true;
+    if !is_authentic(keys, nonce, ad, body, tag) {
+        return Err(Reason::TagDiffers);
     }
-    false
+    let cipher = keys.cipher;
+    put_masked(cipher, tag, body, out);
+    Ok(())
 }
 
-// Seals a plaintext: out gets the ciphertext and the tag. Answers 0, or 1, 2, 4, 5, 7 with out as it was.
-pub fn seal(key: &[u8], nonce: &[u8], ad: &[u8], plaintext: &[u8], out: &mut [u8]) -> u8
-    ensures { Seals key.now nonce.now ad.now plaintext.now out.old result out.new }
+// Seals a plaintext: out gets the ciphertext and the tag. Refuses by 1, 2, 4, 5, 7, with out as it was.
+pub fn seal(
+    key: &[u8],
+    nonce: &[u8],
+    ad: &[u8],
+    plaintext: &[u8],
+    out: &mut [u8],
+) -> Result<(), Reason>
+    ensures { Seals key.now nonce.now ad.now plaintext.now out.old (answer_of result) out.new }
 {
-    let refusal = lengths::seal_refusal(
-        key.len(),
-        nonce.len(),
-        ad.len(),
-        plaintext.len(),
-        out.len(),
-    );
-    if refusal != answer::DONE {
-        return refusal;
-    }
+    lengths::check_seal(key.len(), nonce.len(), ad.len(), plaintext.len(), out.len())?;
     let n = nonce_of(nonce);
     put_sealed(keys::derive(key, n), n, ad, plaintext, out);
-    answer::DONE
+    Ok(())
 }
 
-// Opens a sealed part: out gets the plaintext, once the tag has agreed. Answers 0, or 1, 2, 4, 6, 5, 7, 8 with
-// out as it was.
-pub fn open(key: &[u8], nonce: &[u8], ad: &[u8], sealed: &[u8], out: &mut [u8]) -> u8
-    ensures { Opens key.now nonce.now ad.now sealed.now out.old result out.new }
+// Opens a sealed part: out gets the plaintext, once the tag has agreed. Refuses by 1, 2, 4, 6, 5, 7, 8, with out as it
+// was.
+pub fn open(
+    key: &[u8],
+    nonce: &[u8],
+    ad: &[u8],
+    sealed: &[u8],
+    out: &mut [u8],
+) -> Result<(), Reason>
+    ensures { Opens key.now nonce.now ad.now sealed.now out.old (answer_of result) out.new }
 {
-    let early = lengths::open_refusal(key.len(), nonce.len(), ad.len(), sealed.len(), out.len());
-    if early != answer::DONE {
-        return early;
-    }
+    lengths::check_open(key.len(), nonce.len(), ad.len(), sealed.len(), out.len())?;
     let n = nonce_of(nonce);
     let keys = keys::derive(key, n);
     let t = tag_in(sealed);
     let end = sealed.len() - 16;
-    if put_opened(keys, n, ad, &sealed[..end], t, out) {
-        return answer::DONE;
-    }
-    answer::TAG_DIFFERS
+    put_opened(keys, n, ad, &sealed[..end], t, out)
 }

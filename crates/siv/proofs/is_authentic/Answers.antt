@@ -3,7 +3,6 @@ use mathlib.Core.Path.{ap, ◌∙◌}
 use Prim.Native.Nat.{ℕ}
 use mathlib.Core.List.{List}
 use Rattle.octets.specs.Strings.{same_bytes}
-use borrow.Author.Rules.{rules}
 use Rattle.siv.proofs.is_authentic.Goals as goal
 
 pub returns : goal.returns

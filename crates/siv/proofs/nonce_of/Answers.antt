@@ -2,7 +2,6 @@
 use mathlib.Core.Path.{◌∙◌}
 use lib.ListN.{replicate}
 use Rattle.octets.proofs.Copies.{copied_fills}
-use borrow.Author.Rules.{rules}
 use Rattle.siv.proofs.nonce_of.Goals as goal
 
 pub returns : goal.returns

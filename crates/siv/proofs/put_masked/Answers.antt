@@ -7,7 +7,6 @@ use Rattle.modes.specs.Stream.{masked}
 use Rattle.aead.specs.Cipher.{encrypted}
 use Rattle.rfc8452.specs.Counter.{next_counter, mask_under}
 use Rattle.siv.proofs.Writing.{changed_front}
-use borrow.Author.Rules.{rules}
 use Rattle.siv.proofs.put_masked.Goals as goal
 
 pub slice_bounds-mask-end-2 : goal.slice_bounds-mask-end-2

@@ -7,7 +7,6 @@ use lib.ListN.{length, drop, replicate, length-drop}
 use Rattle.octets.proofs.Parts.{part_rest}
 use Rattle.octets.specs.Strings.{copied}
 use Rattle.octets.proofs.Copies.{copied_fills}
-use borrow.Author.Rules.{rules}
 use Rattle.siv.proofs.tag_in.Goals as goal
 
 pub returns : goal.returns
