@@ -11,8 +11,7 @@ use Rattle.field.specs.Element.{value}
 use Rattle.feeding.specs.declared.Route.{Route}
 use Rattle.feeding.specs.declared.ExpandedKey.{ExpandedKey}
 use Rattle.feeding.specs.declared.Hash.{Hash}
-use Rattle.feeding.specs.declared.Fed.{Fed}
-use Rattle.feeding.specs.declared.Finished.{Finished}
+use Rattle.feeding.specs.Answers.{FedAnswer, FinishAnswer}
 use Rattle.feeding.specs.Formulas.{in_groups, alone}
 use Rattle.feeding.specs.Routes.{absorb_on}
 use Rattle.feeding.specs.Record.{zero_hash}
@@ -42,10 +41,10 @@ module _ (route : Route) (key : ExpandedKey) (acc : FieldElement) where
   abbrev absorbing : (sizes xs : List ℕ) → Counted
   absorbing sizes xs = absorb_on route sizes key (record { element = acc; multiplies = 0 }) xs
 
-  abbrev fed : Counted → (pending : List ℕ) (count : ℕ) → Fed
+  abbrev fed : Counted → (pending : List ℕ) (count : ℕ) → FedAnswer
   fed made pending count = record { answer = 0; hash = record { key = key; acc = made.element; pending = pending; count = count }; multiplies = made.multiplies }
 
-  abbrev refused : (answer : ℕ) → Fed
+  abbrev refused : (answer : ℕ) → FedAnswer
   refused answer = record { answer = answer; hash = zero_hash; multiplies = 0 }
 
   -- "Whole-block feed takes multiples of 16"
@@ -129,7 +128,7 @@ module _ (route : Route) (key : ExpandedKey) (acc : FieldElement) where
   nearly_17 = refl
 
   -- "finish fills them with zeros", adds no block where nothing is pending, and reads no byte past the count
-  abbrev tag : Counted → Finished
+  abbrev tag : Counted → FinishAnswer
   tag made = record { answer = 0; tag = bytes_of 16 (value made.element); multiplies = made.multiplies }
 
   pub finish_0 : finish_of route empty ≡ tag (absorbing alone [])

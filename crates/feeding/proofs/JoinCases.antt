@@ -10,14 +10,14 @@ use Rattle.field.specs.Element.{value, element}
 use Rattle.feeding.specs.declared.Power.{Power}
 use Rattle.feeding.specs.declared.ExpandedKey.{ExpandedKey}
 use Rattle.feeding.specs.declared.Route.{Route}
-use Rattle.feeding.specs.declared.Joined.{Joined}
+use Rattle.feeding.specs.Answers.{JoinAnswer}
 use Rattle.feeding.specs.Key.{powers_from, key_of}
 use Rattle.feeding.specs.declared.Hash.{Hash}
 use Rattle.feeding.specs.Record.{zero_hash}
 use Rattle.feeding.specs.Times.{times, over_digits, ones, width, dots_of}
 use Rattle.feeding.specs.Calls.{start_of, whole_of}
 use Rattle.feeding.specs.Join.{join_of}
-use Rattle.feeding.specs.Parts.{Parts, Part, Both, message, hash_of}
+use Rattle.feeding.specs.Parts.{Part, Both, message, hash_of}
 
 abbrev keyed : (h count : ℕ) → Hash
 keyed h count = record { key = key_of h; acc = element 0; pending = replicate 16 0; count = count }
@@ -53,7 +53,7 @@ module _ (d e : FieldElement) (p q r s t u : Power) (a b : FieldElement) where
   high_unlike = refl
 
   -- "the first one's stored key, nothing pending, whose hash is A multiplied by H through dot n times, plus B"
-  abbrev joins : (acc dots : ℕ) → Joined
+  abbrev joins : (acc dots : ℕ) → JoinAnswer
   joins acc dots = record { answer = 0; hash = record { key = key_with 2 3 d p q r; acc = element acc; pending = replicate 16 0; count = 0 }; dots = dots }
 
   abbrev H : ℕ

@@ -15,6 +15,7 @@ pub mod Pieces
 pub mod Spent
 pub mod Stale
 pub mod Refused
+pub mod Told
 pub mod RecordCases
 pub mod FeedCases
 pub mod Dots

@@ -28,21 +28,21 @@ use Rattle.rfc8452.proofs.Cut.{blocks_++}
 use Rattle.rfc8452.proofs.Parts.{blocks_elements}
 use Rattle.feeding.proofs.Agree.{groups_end, lones_end, Checked, agree}
 use Rattle.feeding.specs.declared.Hash.{Hash}
-use Rattle.feeding.specs.declared.Fed.{Fed}
+use Rattle.feeding.specs.Answers.{FedAnswer}
 use Rattle.feeding.specs.Record.{pending_of, held_by, holding, zero_hash, fed_or, finished_or}
 use Rattle.feeding.specs.Calls.{whole_answer, padded_answer, record_answer, absorbed, pieced, whole_part, short_part, finishing, tagged, finish_of}
 use Rattle.feeding.specs.Feeds.{Feed, Whole, Padded, Piece, feed_by, Accepted, fed_all, to_blocks, stands_for, fed_string}
 use Rattle.feeding.proofs.Message.{cut_blocks, short_length, kept_again, padded_whole, padded_blocks}
 
 -- a call that answers 0 has refused nothing, and has made what it is to make
-accepted : (answer : ℕ) (made : Fed) → made.answer ≡ done → (fed_or answer made).answer ≡ done → answer ≡ done
+accepted : (answer : ℕ) (made : FedAnswer) → made.answer ≡ done → (fed_or answer made).answer ≡ done → answer ≡ done
 accepted answer made m e = by_test (eqb answer done) refl e
   where
     by_test : (t : Bool) → eqb answer done ≡ t → (cond t made (record { answer = answer; hash = zero_hash; multiplies = 0 })).answer ≡ done → answer ≡ done
     by_test true t e = eqb-true answer done t
     by_test false t e = e
 
-pub accepted_made : (answer : ℕ) (made : Fed) → made.answer ≡ done → (fed_or answer made).answer ≡ done → (answer ≡ done) × (fed_or answer made ≡ made)
+pub accepted_made : (answer : ℕ) (made : FedAnswer) → made.answer ≡ done → (fed_or answer made).answer ≡ done → (answer ≡ done) × (fed_or answer made ≡ made)
 accepted_made answer made m e = let a = accepted answer made m e in (a, ap (λ n. fed_or n made) a)
 
 -- what every record that code can hold is: its words fit, and it stores sixteen bytes

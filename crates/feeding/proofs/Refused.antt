@@ -12,9 +12,7 @@ use Rattle.octets.specs.Numbers.{number}
 use Rattle.field.specs.Rf.{counted}
 use Rattle.feeding.specs.declared.Route.{Route}
 use Rattle.feeding.specs.declared.Hash.{Hash}
-use Rattle.feeding.specs.declared.Fed.{Fed}
-use Rattle.feeding.specs.declared.Finished.{Finished}
-use Rattle.feeding.specs.declared.Joined.{Joined}
+use Rattle.feeding.specs.Answers.{FedAnswer, FinishAnswer, JoinAnswer}
 use Rattle.feeding.specs.Key.{key_of, expansion_cost, h_of, same_element}
 use Rattle.feeding.specs.Record.{pending_of, holding, zero_hash, fed_or, finished_or}
 use Rattle.feeding.specs.Calls.{start_answer, start_of, whole_answer, padded_answer, record_answer, absorbed, whole_of, padded_of, pieced, piece_of, finishing, tagged, finish_of, reset_of}
@@ -22,32 +20,32 @@ use Rattle.feeding.specs.Feeds.{Feed, Whole, Padded, Piece, feed_by}
 use Rattle.feeding.specs.Join.{join_answer, joined_or, joined, join_of}
 
 -- an answer, and nothing
-abbrev pub no_record : ℕ → Fed
+abbrev pub no_record : ℕ → FedAnswer
 no_record answer = record { answer = answer; hash = zero_hash; multiplies = 0 }
 
-abbrev pub no_tag : ℕ → Finished
+abbrev pub no_tag : ℕ → FinishAnswer
 no_tag answer = record { answer = answer; tag = replicate 16 0; multiplies = 0 }
 
-abbrev pub no_join : ℕ → Joined
+abbrev pub no_join : ℕ → JoinAnswer
 no_join answer = record { answer = answer; hash = zero_hash; dots = 0 }
 
 -- done keeps what was made; every other answer drops it
-pub done_record : (made : Fed) → fed_or 0 made ≡ made
+pub done_record : (made : FedAnswer) → fed_or 0 made ≡ made
 done_record made = refl
 
-pub no_record_lem : (n : ℕ) (made : Fed) → (n ≡ 0 → ⊥) → fed_or n made ≡ no_record n
+pub no_record_lem : (n : ℕ) (made : FedAnswer) → (n ≡ 0 → ⊥) → fed_or n made ≡ no_record n
 no_record_lem n made other = ap (λ t. cond t made (no_record n)) (ne_eqb n 0 other)
 
-pub done_tag : (made : Finished) → finished_or 0 made ≡ made
+pub done_tag : (made : FinishAnswer) → finished_or 0 made ≡ made
 done_tag made = refl
 
-pub no_tag_lem : (n : ℕ) (made : Finished) → (n ≡ 0 → ⊥) → finished_or n made ≡ no_tag n
+pub no_tag_lem : (n : ℕ) (made : FinishAnswer) → (n ≡ 0 → ⊥) → finished_or n made ≡ no_tag n
 no_tag_lem n made other = ap (λ t. cond t made (no_tag n)) (ne_eqb n 0 other)
 
-pub done_join : (made : Joined) → joined_or 0 made ≡ made
+pub done_join : (made : JoinAnswer) → joined_or 0 made ≡ made
 done_join made = refl
 
-pub no_join_lem : (n : ℕ) (made : Joined) → (n ≡ 0 → ⊥) → joined_or n made ≡ no_join n
+pub no_join_lem : (n : ℕ) (made : JoinAnswer) → (n ≡ 0 → ⊥) → joined_or n made ≡ no_join n
 no_join_lem n made other = ap (λ t. cond t made (no_join n)) (ne_eqb n 0 other)
 
 -- row 1: a hash key that is not 16 bytes
@@ -73,7 +71,7 @@ module _ (h : Hash) where
 
 -- "a join meets pending bytes", in either record; "a join meets unlike keys"
 module _ (a b : Hash) (n : ℕ) where
-  abbrev told : (s t u : Bool) → Joined
+  abbrev told : (s t u : Bool) → JoinAnswer
   told s t u = joined_or (first (s ⇒ bad_record ∷ t ⇒ bad_record ∷ u ⇒ bad_record ∷ [])) (joined a b n)
 
   abbrev unlike : Bool
@@ -98,7 +96,7 @@ module _ (a b : Hash) (n : ℕ) where
   unlike_refused other = ap (λ u. told (ltb 0 a.count) (ltb 0 b.count) (not u)) other ∙ third_told (ltb 0 a.count) (ltb 0 b.count)
 
 -- by the outcome of the test, whatever the call would have made
-either : (answer : ℕ) (made : Fed) → made.answer ≡ done → ((fed_or answer made).answer ≡ done → ⊥) → fed_or answer made ≡ no_record (fed_or answer made).answer
+either : (answer : ℕ) (made : FedAnswer) → made.answer ≡ done → ((fed_or answer made).answer ≡ done → ⊥) → fed_or answer made ≡ no_record (fed_or answer made).answer
 either answer made m = by_test (eqb answer done)
   where
     by_test : (t : Bool) → ((cond t made (no_record answer)).answer ≡ done → ⊥) → cond t made (no_record answer) ≡ no_record (cond t made (no_record answer)).answer
@@ -120,7 +118,7 @@ reset_refused h = either (record_answer h) (holding h.key (counted 0 0) []) refl
 pub finish_refused : (route : Route) (h : Hash) → ((finish_of route h).answer ≡ done → ⊥) → finish_of route h ≡ no_tag (finish_of route h).answer
 finish_refused route h = by_test (eqb (record_answer h) done)
   where
-    made : Finished
+    made : FinishAnswer
     made = tagged (finishing route h)
 
     by_test : (t : Bool) → ((cond t made (no_tag (record_answer h))).answer ≡ done → ⊥)

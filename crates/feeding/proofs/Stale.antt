@@ -17,7 +17,7 @@ use Rattle.feeding.specs.Routes.{absorb_on}
 use Rattle.field.specs.declared.field_element.FieldElement.{FieldElement}
 use Rattle.feeding.specs.declared.ExpandedKey.{ExpandedKey}
 use Rattle.feeding.specs.declared.Hash.{Hash}
-use Rattle.feeding.specs.declared.Fed.{Fed}
+use Rattle.feeding.specs.Answers.{FedAnswer}
 use Rattle.feeding.specs.Record.{filled, pending_of, holding, fed_or, finished_or}
 use Rattle.feeding.specs.Calls.{whole_answer, padded_answer, record_answer, absorbed, pieced, whole_part, short_part, tagged, finish_of, reset_of}
 use Rattle.feeding.specs.Join.{join_of}
@@ -67,7 +67,7 @@ pub record Clean (h next : Hash) : Type 0 where
   pub zeros : drop next.count next.pending ≡ replicate (16 - next.count) 0
   pub key : next.key ≡ h.key
 
-clean : (h : Hash) (answer : ℕ) (made : Fed) (kept : List ℕ) → made.answer ≡ done → made.hash.pending ≡ filled kept → made.hash.count ≡ length kept
+clean : (h : Hash) (answer : ℕ) (made : FedAnswer) (kept : List ℕ) → made.answer ≡ done → made.hash.pending ≡ filled kept → made.hash.count ≡ length kept
     → made.hash.key ≡ h.key → (fed_or answer made).answer ≡ done → Clean h (fed_or answer made).hash
 clean h answer made kept m p n k e =
     let is = (accepted_made answer made m e).1 in

@@ -3,7 +3,7 @@ use Rattle.std.specs.Prelude.{ℕ, ◌-◌, ◌%◌, ◌≡◌, List, [], ◌∷
 use Rattle.answer.specs.Answers.{done}
 use Rattle.feeding.specs.declared.Route.{Route}
 use Rattle.feeding.specs.declared.Hash.{Hash}
-use Rattle.feeding.specs.declared.Fed.{Fed}
+use Rattle.feeding.specs.Answers.{FedAnswer}
 use Rattle.feeding.specs.Calls.{whole_of, padded_of, piece_of}
 
 -- one call: whole blocks, padded, or a piece
@@ -12,7 +12,7 @@ pub data Feed : Type 0 where
   Padded : Route → List ℕ → Feed
   Piece : Route → List ℕ → Feed
 
-abbrev pub feed_by : Feed → Hash → Fed
+abbrev pub feed_by : Feed → Hash → FedAnswer
 feed_by (Whole route s) h = whole_of route h s
 feed_by (Padded route s) h = padded_of route h s
 feed_by (Piece route s) h = piece_of route h s

@@ -2,7 +2,9 @@
 pub mod Key
 pub mod Formulas
 pub mod Routes
+pub mod Answers
 pub mod Record
+pub mod Told
 pub mod Calls
 pub mod Feeds
 pub mod Cost

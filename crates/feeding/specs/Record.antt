@@ -6,8 +6,7 @@ use Rattle.field.specs.Element.{element}
 use Rattle.feeding.specs.declared.ExpandedKey.{ExpandedKey}
 use Rattle.feeding.specs.Key.{power_count}
 use Rattle.feeding.specs.declared.Hash.{Hash}
-use Rattle.feeding.specs.declared.Fed.{Fed}
-use Rattle.feeding.specs.declared.Finished.{Finished}
+use Rattle.feeding.specs.Answers.{FedAnswer, FinishAnswer}
 
 -- bytes at the front of a block of zeros
 abbrev pub filled : List ℕ → List ℕ
@@ -22,7 +21,7 @@ abbrev pub held_by : Hash → Counted
 held_by h = record { element = h.acc; multiplies = 0 }
 
 -- done: the record with a key, an element and the bytes `kept`, zeros past them, and the word products spent
-abbrev pub holding : ExpandedKey → Counted → (kept : List ℕ) → Fed
+abbrev pub holding : ExpandedKey → Counted → (kept : List ℕ) → FedAnswer
 holding key made kept =
     record { answer = done; hash = record { key = key; acc = made.element; pending = filled kept; count = length kept }; multiplies = made.multiplies }
 
@@ -32,8 +31,8 @@ zero_hash =
     record { key = record { powers = replicate power_count (record { h = element 0; d = element 0 }) }; acc = element 0; pending = replicate 16 0; count = 0 }
 
 -- what a call answers: what it made where its answer is 0, and else the number with nothing
-abbrev pub fed_or : (answer : ℕ) → Fed → Fed
+abbrev pub fed_or : (answer : ℕ) → FedAnswer → FedAnswer
 fed_or answer made = cond (eqb answer done) made (record { answer = answer; hash = zero_hash; multiplies = 0 })
 
-abbrev pub finished_or : (answer : ℕ) → Finished → Finished
+abbrev pub finished_or : (answer : ℕ) → FinishAnswer → FinishAnswer
 finished_or answer made = cond (eqb answer done) made (record { answer = answer; tag = replicate 16 0; multiplies = 0 })

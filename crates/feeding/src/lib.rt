@@ -45,26 +45,23 @@ pub struct Hash {
     pub count: usize,
 }
 
-// A call's answer, the record that it made, and the word products that it spent.
+// The record that a call made, and the word products that it spent.
 #[derive(Clone, Copy)]
 pub struct Fed {
-    pub answer: u8,
     pub hash: Hash,
     pub multiplies: u64,
 }
 
-// The answer of finish, the tag, and the word products spent.
+// The tag, and the word products spent.
 #[derive(Clone, Copy)]
 pub struct Finished {
-    pub answer: u8,
     pub tag: [u8; 16],
     pub multiplies: u64,
 }
 
-// The answer of a join, the record of both parts, and the dots that it spent.
+// The record of both parts, and the dots that joining them spent.
 #[derive(Clone, Copy)]
 pub struct Joined {
-    pub answer: u8,
     pub hash: Hash,
     pub dots: u64,
 }

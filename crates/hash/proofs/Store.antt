@@ -30,6 +30,10 @@ kept_law t s n e room =
 pub filled_full : (t : List ℕ) → length t ≡ 16 → filled t ≡ t
 filled_full t e = let none : 16 - length t ≡ 0 = omega arith in ap (λ k. t ++ replicate {A = ℕ} k 0) none ∙ append-nil t
 
+-- the bytes at the front of the zeros
+pub filled_front : (t : List ℕ) (n : ℕ) → length t ≡ n → take n (filled t) ≡ t
+filled_front t n e = take_at t (replicate (16 - length t) 0) n e
+
 -- pending bytes p and a piece s: too few for a block
 module _ (d : List ℕ) (few : length d < 16) where
   none_whole : length d / 16 * 16 ≡ 0

@@ -1,19 +1,33 @@
 // The record that a call starts from, and the records that calls return.
-ghost use Rattle.std.specs.Prelude.{◌≡◌, ◌++◌, ◌+◌, ◌≤◌, length, take};
+ghost use Rattle.std.specs.Prelude.{◌≡◌, ◌++◌, ◌+◌, ◌≤◌, length, take, Ok, [], ◌∷◌, ltb};
+ghost use Rattle.answer.specs.Answers.{bad_record};
+ghost use Rattle.answer.specs.First.{first, ◌⇒◌};
+ghost use Rattle.answer.specs.Reasons.{answer_of};
 ghost use Rattle.feeding.specs.Record.{filled, held_by, holding, zero_hash};
+ghost use Rattle.feeding.specs.Told.{fed_told};
 
+use answer::Reason;
 use feeding::{ExpandedKey, Fed, Hash, POWERS, Power};
 use field::FieldElement;
 use field::rf::Counted;
 use polyval::block;
 
+// 14 where the record claims more pending bytes than the call takes.
+pub(crate) fn pending_at_most(most: usize, h: Hash) -> Result<(), Reason>
+    ensures { answer_of result ≡ first (ltb most h.count ⇒ bad_record ∷ []) }
+{
+    if most < h.count {
+        return Err(Reason::BadRecord);
+    }
+    Ok(())
+}
+
 // The element, with nothing spent yet.
 pub(crate) fn held(h: Hash) -> Counted
     ensures { result ≡ held_by h }
 {
-    let acc = h.acc;
     Counted {
-        element: acc,
+        element: h.acc,
         multiplies: 0,
     }
 }
@@ -27,32 +41,23 @@ pub(crate) fn kept(store: [u8; 16], count: usize, s: &[u8]) -> [u8; 16]
     block::pasted(front, count, s)
 }
 
-// Done: a record that keeps the first `count` bytes of a store with s behind them.
-pub(crate) fn holding(
-    key: ExpandedKey,
-    made: Counted,
-    store: [u8; 16],
-    count: usize,
-    s: &[u8],
-) -> Fed
-    requires { count + length s.now ≤ 16 }
-    ensures { result ≡ holding key made (take count store ++ s.now) }
+// The record that keeps `pending` for the next call, zeros past it.
+pub(crate) fn holding(key: ExpandedKey, made: Counted, pending: &[u8]) -> Fed
+    requires { length pending.now ≤ 16 }
+    ensures { fed_told (Ok result) ≡ holding key made pending.now }
 {
-    let acc = made.element;
-    let pending = kept(store, count, s);
     Fed {
-        answer: answer::DONE,
         hash: Hash {
             key,
-            acc,
-            pending,
-            count: count + s.len(),
+            acc: made.element,
+            pending: block::pasted([0u8; 16], 0, pending),
+            count: pending.len(),
         },
         multiplies: made.multiplies,
     }
 }
 
-// The all_zero record, which a refusal returns. Its key belongs to H = 0.
+// The all_zero record, which stands in the place of one that a call did not make. Its key belongs to H = 0.
 pub fn zero() -> Hash
     ensures { result ≡ zero_hash }
 {
@@ -60,23 +65,12 @@ pub fn zero() -> Hash
         h: FieldElement::ZERO,
         d: FieldElement::ZERO,
     };
-    let powers = [none; POWERS];
     Hash {
-        key: ExpandedKey { powers },
+        key: ExpandedKey {
+            powers: [none; POWERS],
+        },
         acc: FieldElement::ZERO,
         pending: [0u8; 16],
         count: 0,
-    }
-}
-
-// A refusal: the number, and an all_zero record in the place of h.
-pub(crate) fn refused(h: Hash, answer: u8) -> Fed
-    ensures { result ≡ record { answer = answer; hash = zero_hash; multiplies = 0 } }
-{
-    let none = zero();
-    Fed {
-        answer,
-        hash: none,
-        multiplies: 0,
     }
 }

@@ -1,43 +1,39 @@
 // Records with nothing absorbed: under a new key, and under the same one.
 ghost use Rattle.std.specs.Prelude.{◌≡◌};
 ghost use Rattle.feeding.specs.Calls.{start_of, reset_of};
+ghost use Rattle.feeding.specs.Told.{fed_told};
 
 use crate::records;
+use answer::Reason;
 use feeding::{Fed, Hash};
 use field::FieldElement;
 use field::rf::Counted;
 use polyval::{block, key};
 
 // A record under a key of 16 bytes, with nothing absorbed. The key is expanded for every route.
-pub fn start(key: &[u8]) -> Fed
-    ensures { result ≡ start_of key.now }
+pub fn start(key: &[u8]) -> Result<Fed, Reason>
+    ensures { fed_told result ≡ start_of key.now }
 {
-    let h = block::block_of(key);
     if key.len() != 16 {
-        return records::refused(records::zero(), answer::KEY_LENGTH);
+        return Err(Reason::KeyLength);
     }
+    let h = block::block_of(key);
     let expanded = key::expand(h);
     let made = Counted {
         element: FieldElement::ZERO,
         multiplies: expanded.multiplies,
     };
-    let none = [0u8; 16];
-    records::holding(expanded.key, made, none, 0, &none[..0])
+    Ok(records::holding(expanded.key, made, &[]))
 }
 
 // The same key, with nothing absorbed and nothing pending.
-pub fn reset(h: Hash) -> Fed
-    ensures { result ≡ reset_of h }
+pub fn reset(h: Hash) -> Result<Fed, Reason>
+    ensures { fed_told result ≡ reset_of h }
 {
-    if 15 < h.count {
-        return records::refused(h, answer::BAD_RECORD);
-    }
-    let acc = FieldElement::ZERO;
+    records::pending_at_most(15, h)?;
     let made = Counted {
-        element: acc,
+        element: FieldElement::ZERO,
         multiplies: 0,
     };
-    let none = [0u8; 16];
-    let key = h.key;
-    records::holding(key, made, none, 0, &none[..0])
+    Ok(records::holding(h.key, made, &[]))
 }

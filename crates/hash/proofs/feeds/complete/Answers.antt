@@ -23,36 +23,25 @@ long-at c = search rules
 sized-at : (c : Start) → Sized c.args.h.acc
 sized-at c = record { lo = omega arith; hi = omega arith }
 
-pub slice_bounds-kept-end : goal.slice_bounds-kept-end
-slice_bounds-kept-end c =
-    let a = c.args in
-    sym (length-take-le (16 - a.h.count) a.s.now (omega (arith, c.requires)))
-
-pub kept-first-requires : goal.kept-first-requires
-kept-first-requires c =
-    let a = c.args in
-    omega (arith, c.requires, length-take-le (16 - a.h.count) a.s.now (omega (arith, c.requires)))
-
 pub returns : goal.returns
 unfolding pieced
 returns c =
-    let start = c in
-    let a = start.args in
-    let h = a.h in
-    let s = a.s.now in
+    let start = (goal.at.returns c).Start in
+    let h = c.args.h in
+    let s = c.args.s.now in
     let few = start.requires.0 in
     let many = start.requires.1 in
-    let sized = sized-at (goal.at.returns start).Start in
+    let sized = sized-at start in
     let room : ℕ = 16 - h.count in
     let end : ℕ = length s - (length s - room) % 16 in
-    let at_count : length (pending_of h) ≡ h.count = length-take-le h.count h.pending (omega (arith, few, long-at (goal.at.returns start).Start)) in
+    let at_count : length (pending_of h) ≡ h.count = length-take-le h.count h.pending (omega (arith, few, long-at start)) in
     let completes : h.count + room ≡ 16 = omega (arith, few) in
     let enough : room ≤ length s = omega (arith, many) in
     let first = c.kept-first.ensures
     ∙ filled_full (completed (pending_of h) s h.count room end at_count completes enough refl) (completed_length (pending_of h) s h.count room end at_count completes enough refl) in
     let made = c.absorb_alone-made.ensures
-    ∙ (λ i. absorb_on a.route alone h.key (c.held-held.ensures i) (blocks (first i))) in
-    let more = c.absorb_alone-more.ensures ∙ ap (λ m. absorb_on a.route alone h.key m (blocks (take (end - room) (drop room s)))) made
-    ∙ sym (alone_++ h.key (held_by h) sized a.route (blocks (completed (pending_of h) s h.count room end at_count completes enough refl)) (blocks (take (end - room) (drop room s))))
-    ∙ ap (absorb_on a.route alone h.key (held_by h)) (sym (enough_blocks (pending_of h) s h.count room end at_count completes enough refl)) in
+    ∙ (λ i. absorb_on c.args.route alone h.key (c.held.ensures i) (blocks (first i))) in
+    let more = c.absorb_alone-more.ensures ∙ ap (λ m. absorb_on c.args.route alone h.key m (blocks (take (end - room) (drop room s)))) made
+    ∙ sym (alone_++ h.key (held_by h) sized c.args.route (blocks (completed (pending_of h) s h.count room end at_count completes enough refl)) (blocks (take (end - room) (drop room s))))
+    ∙ ap (absorb_on c.args.route alone h.key (held_by h)) (sym (enough_blocks (pending_of h) s h.count room end at_count completes enough refl)) in
     c.holding.ensures ∙ (λ i. holding h.key (more i) ((part_rest end s ∙ sym (enough_short (pending_of h) s h.count room end at_count completes enough refl)) i))
