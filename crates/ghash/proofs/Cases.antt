@@ -13,7 +13,10 @@ use Rattle.field.specs.Element.{value, element}
 use Rattle.rfc8452.specs.Machine.{step, run}
 use Rattle.rfc8452.specs.Blocks.{blocks_n, blocks}
 use Rattle.rfc8452.proofs.Cases.{key_for_lem}
-use Rattle.ghash.specs.Calls.{ghash_start_answer, ghash_start_of, fed_of, ghash_tag_of, ghash_answer, hashed_of}
+use Rattle.std.proofs.Common.{Ok, Err}
+use Rattle.answer.specs.declared.Reason.TheVariants.{KeyLength, NotWholeBlocks}
+use Rattle.ghash.specs.declared.parts.Ghash.{Ghash}
+use Rattle.ghash.specs.Calls.{start_told, hashed_told, ghash_start_answer, ghash_start_of, fed_of, ghash_tag_of, ghash_answer, hashed_of}
 use Rattle.rfc8452.proofs.Reversed.{bytes_reverse}
 use Rattle.sp800_38d.proofs.Equal.{ghash_is}
 use Rattle.sp800_38d.proofs.Cases.{rfc_ghash}
@@ -48,6 +51,14 @@ fifteen_start = refl
 
 pub seventeen_start : (ghash_start_of (replicate 17 7)).answer ≡ 1
 seventeen_start = refl
+
+-- what code returns, told: what was made with answer 0, and a reason's number with zeros
+pub start_told_lem : (g : Ghash) → (start_told (Ok g) ≡ record { answer = 0; ghash = g })
+    × (start_told (Err KeyLength) ≡ record { answer = 1; ghash = record { key = record { lo = 0; hi = 0 }; acc = record { lo = 0; hi = 0 } } })
+start_told_lem g = (refl, refl)
+
+pub hashed_told_lem : (tag : List ℕ) → (hashed_told (Ok tag) ≡ record { answer = 0; tag = tag }) × (hashed_told (Err NotWholeBlocks) ≡ record { answer = 3; tag = replicate 16 0 })
+hashed_told_lem tag = (refl, refl)
 
 -- "Any count, hash, tag, record or position it returns is all zero": for every answer that is not 0
 otherwise : {A : Type 0} (answer : ℕ) (made none : A) → (answer ≡ 0 → ⊥) → cond (eqb answer 0) made none ≡ none

@@ -1,6 +1,6 @@
 -- Feeding, seen from what is left. Assumes nothing.
 use mathlib.Core.Path.{◌≡◌, refl, sym, ap, ◌∙◌}
-use mathlib.Core.List.{List, [], ◌∷◌, ◌++◌, map}
+use mathlib.Core.List.{List, ◌∷◌, ◌++◌, map}
 use Prim.Native.Nat.{ℕ, ◌<◌, min}
 use lib.ListN.{length, take, drop}
 use lib.Seq.{take_at, drop_at}

@@ -1,5 +1,5 @@
 -- `ghash::ghash` meets its contract. Assumes nothing.
-use mathlib.Core.Path.{◌≡◌, sym, ap, ◌∙◌}
+use mathlib.Core.Path.{sym, ap, ◌∙◌}
 use Prim.Native.Nat.{◌%◌}
 use lib.ListN.{length}
 use borrow.Author.Tests.{eq-eqb}
