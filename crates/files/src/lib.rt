@@ -31,18 +31,13 @@ pub struct NamedFile<'a, F> {
 
 // The system's reason, without the number that std writes behind it.
 fn reason(said: &str) -> &str {
-    match said.split_once(" (os error ") {
-        Some((reason, _)) => reason,
-        None => said,
-    }
+    said.split_once(" (os error ")
+        .map_or(said, |(reason, _)| reason)
 }
 
 // The part of some text that was written to the front of zeros.
 fn written(text: &[u8]) -> &str {
-    match str::from_utf8(text) {
-        Ok(said) => said.trim_end_matches('\0'),
-        Err(_) => "",
-    }
+    str::from_utf8(text).unwrap_or("").trim_end_matches('\0')
 }
 
 // Writes a name to standard error. Bytes that are not UTF-8 are shown as the character for that.
@@ -66,10 +61,8 @@ pub fn fail<R: Eprint>(rt: &R, path: &[u8], error: io::Error) {
 
 // The file at path, opened for reading. std opens no name that is not UTF-8.
 fn open_named<R: Files<File = File>>(rt: &R, path: &[u8]) -> io::Result<File> {
-    match str::from_utf8(path) {
-        Ok(name) => File::open(rt, name),
-        Err(_) => Err(io::Error::from(io::ErrorKind::InvalidFilename)),
-    }
+    let name = str::from_utf8(path).map_err(|_| io::Error::from(io::ErrorKind::InvalidFilename))?;
+    File::open(rt, name)
 }
 
 // What came of a call on the file at path; nothing where it failed, which is told.
