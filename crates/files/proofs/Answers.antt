@@ -8,8 +8,7 @@ use native.Mathlib.Omega.{arith}
 use lib.Dec.{leb→le}
 use lib.ListN.{length}
 use lib.Signed.{lt_z}
-use Rattle.files.specs.declared.Got.{Got}
-use Rattle.files.specs.Files.{IsPrefixLen, Opened, Read}
+use Rattle.files.specs.Files.{Got, IsPrefixLen, Opened, Read}
 use Rattle.logic.proofs.Tests.{no}
 
 -- what is not below 0 is a descriptor

@@ -1,12 +1,13 @@
 // The files that a program is given by name. Where a call fails, the file's name and the system's reason
-// go to standard error. What is read is the system's: no contract can speak of it, and these say only
-// that a count lies within the buffer and is 0 after a failure. Assumes nothing beyond what std assumes.
+// go to standard error, and it answers None. What is read is the system's: no contract can speak of it, and these
+// say only that a count lies within the buffer. Assumes nothing beyond what std assumes.
 #![tactic(auto)]
 
 mod words;
 
 ghost use Rattle.std.specs.Prelude.{◌≡◌};
-ghost use Rattle.files.specs.Files.{Opened, Read, descriptor_of};
+ghost use Rattle.std.specs.Result.{result_ok};
+ghost use Rattle.files.specs.Files.{Opened, Read, got, descriptor_of};
 
 use std::fs::File;
 use std::io::Write;
@@ -21,30 +22,22 @@ pub const KEY_ROOM: usize = 33;
 // What a file's name may have at most, as the system has it: a longer one is no file's.
 pub const NAME_ROOM: usize = 4096;
 
-// How many bytes were read; 0 where the file is at its end, and where it failed.
-#[derive(Clone, Copy)]
-pub struct Got {
-    pub failed: bool,
-    pub count: usize,
+// A file, and the name that it was given by, under which what fails is told.
+#[derive(Drop)]
+pub struct NamedFile<'a, F> {
+    pub path: &'a [u8],
+    pub file: F,
 }
-
-// What a failed read counts.
-const NOTHING: usize = 0;
 
 // The system's reason, without the number that std writes behind it.
 fn reason(said: &str) -> &str {
-    match said.split_once(" (os error ") {
-        Some((reason, _)) => reason,
-        None => said,
-    }
+    said.split_once(" (os error ")
+        .map_or(said, |(reason, _)| reason)
 }
 
 // The part of some text that was written to the front of zeros.
 fn written(text: &[u8]) -> &str {
-    match str::from_utf8(text) {
-        Ok(said) => said.trim_end_matches('\0'),
-        Err(_) => "",
-    }
+    str::from_utf8(text).unwrap_or("").trim_end_matches('\0')
 }
 
 // Writes a name to standard error. Bytes that are not UTF-8 are shown as the character for that.
@@ -68,96 +61,76 @@ pub fn fail<R: Eprint>(rt: &R, path: &[u8], error: io::Error) {
 
 // The file at path, opened for reading. std opens no name that is not UTF-8.
 fn open_named<R: Files<File = File>>(rt: &R, path: &[u8]) -> io::Result<File> {
-    match str::from_utf8(path) {
-        Ok(name) => File::open(rt, name),
-        Err(_) => Err(io::Error::from(io::ErrorKind::InvalidFilename)),
+    let name = str::from_utf8(path).map_err(|_| io::Error::from(io::ErrorKind::InvalidFilename))?;
+    File::open(rt, name)
+}
+
+// What came of a call on the file at path; nothing where it failed, which is told.
+fn told<T, R: Eprint>(rt: &R, path: &[u8], came: io::Result<T>) -> Option<T>
+    ensures { result ≡ result_ok came }
+{
+    match came {
+        Ok(x) => Some(x),
+        Err(error) => {
+            fail(rt, path, error);
+            None
+        }
     }
 }
 
 // The descriptor of what was opened, or -1 where nothing was.
-pub fn descriptor(opened: &Option<File>) -> i32
+pub fn descriptor(opened: &Option<NamedFile<'_, File>>) -> i32
     ensures { result ≡ descriptor_of opened.now }
 {
     match opened {
-        Some(file) => file.as_raw_fd(),
+        Some(named) => named.file.as_raw_fd(),
         None => -1,
     }
 }
 
 // The file at path, opened for reading, unless that fails.
-pub fn open<R: Files<File = File> + Eprint>(rt: &R, path: &[u8]) -> Option<File>
+pub fn open<'a, R: Files<File = File> + Eprint>(
+    rt: &R,
+    path: &'a [u8],
+) -> Option<NamedFile<'a, File>>
     ensures { Opened (descriptor_of result) }
 {
-    let opened = match open_named(rt, path) {
-        Ok(file) => Some(file),
-        Err(error) => {
-            fail(rt, path, error);
-            None
-        }
-    };
+    let file = told(rt, path, open_named(rt, path))?;
+    let opened = Some(NamedFile { path, file });
     if descriptor(&opened) < 0 {
         return None;
     }
     opened
 }
 
-// One read to the front of buf, of any count that the system chooses.
-pub fn read<R: Eprint, F: io::Read>(rt: &R, file: &mut F, path: &[u8], buf: &mut [u8]) -> Got
-    ensures { Read result buf.new }
-{
-    match file.read(buf) {
-        Ok(got) => Got {
-            failed: false,
-            count: got,
-        },
-        Err(error) => {
-            fail(rt, path, error);
-            Got {
-                failed: true,
-                count: NOTHING,
-            }
-        }
+impl<F: io::Read> NamedFile<'_, F> {
+    // One read to the front of buf, of any count that the system chooses: 0 where the file is at its end.
+    pub fn read<R: Eprint>(&mut self, rt: &R, buf: &mut [u8]) -> Option<usize>
+        ensures { Read (got result) buf.new }
+    {
+        let came = self.file.read(buf);
+        told(rt, self.path, came)
     }
-}
 
-// Reads until buf is full or the file ends.
-fn fill<R: Eprint, F: io::Read>(rt: &R, file: &mut F, path: &[u8], buf: &mut [u8]) -> Got
-    ensures { Read result buf.new }
-{
-    let mut n = 0;
-    while n < buf.len() {
-        let got = read(rt, file, path, &mut buf[n..]);
-        if got.failed {
-            return Got {
-                failed: true,
-                count: NOTHING,
-            };
+    // Reads until buf is full or the file ends. std's calls that read so far read to a heap, or need all that buf has room for.
+    fn fill<R: Eprint>(&mut self, rt: &R, buf: &mut [u8]) -> Option<usize>
+        ensures { Read (got result) buf.new }
+    {
+        let mut n = 0;
+        while n < buf.len() {
+            let more = self.read(rt, &mut buf[n..])?;
+            if more == 0 {
+                break;
+            }
+            n += more;
         }
-        if got.count == 0 {
-            return Got {
-                failed: false,
-                count: n,
-            };
-        }
-        n += got.count;
-    }
-    Got {
-        failed: false,
-        count: n,
+        Some(n)
     }
 }
 
 // The first bytes of the file at path, as many as buf has room for.
-pub fn fetch<R: Files<File = File> + Eprint>(rt: &R, path: &[u8], buf: &mut [u8]) -> Got
-    ensures { Read result buf.new }
+pub fn fetch<R: Files<File = File> + Eprint>(rt: &R, path: &[u8], buf: &mut [u8]) -> Option<usize>
+    ensures { Read (got result) buf.new }
 {
-    let Some(mut file) = open(rt, path) else {
-        return Got {
-            failed: true,
-            count: NOTHING,
-        };
-    };
-    let got = fill(rt, &mut file, path, buf);
-    drop(file);
-    got
+    open(rt, path)?.fill(rt, buf)
 }

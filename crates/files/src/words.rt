@@ -1,25 +1,20 @@
 // The words that a program was started with, which name its files.
-ghost use Rattle.files.specs.Files.{IsPrefixLen};
+ghost use Rattle.std.specs.Prelude.{◌≡◌, ◌≤◌, length};
 
 use std::env::FillError;
 use std::rt::Env;
 
 // Whether the program was started with word i. Word 0 is its own name.
 pub fn has_word<R: Env>(rt: &R, i: usize) -> bool {
-    let mut room = [0u8; 1];
-    match rt.arg(i, &mut room) {
-        Err(FillError::NotPresent) => false,
-        _ => true,
-    }
+    !matches!(rt.arg(i, &mut [0u8; 1]), Err(FillError::NotPresent))
 }
 
-// How many bytes of word i were put to the front of buf: all of them, or none where buf has no room for them
-// or there is no such word.
-pub fn word<R: Env>(rt: &R, i: usize, buf: &mut [u8]) -> usize
-    ensures { IsPrefixLen result buf.new }
+// Word i, which is put to the front of buf: all of its bytes, or none where buf has no room for them or there is
+// no such word.
+pub fn word<'a, R: Env>(rt: &R, i: usize, buf: &'a mut [u8]) -> &'a [u8]
+    ensures place { result.ref_ptr ≡ buf.entry.ref_ptr }
+    ensures within { length result.now ≤ length buf.old }
 {
-    match rt.arg(i, buf) {
-        Ok(count) => count,
-        Err(_) => 0,
-    }
+    let count = rt.arg(i, buf).unwrap_or(0);
+    &buf[..count]
 }

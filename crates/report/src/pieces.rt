@@ -1,74 +1,69 @@
 // The pieces of a line: its head, the fields of a position, why a scan stopped. Assumes nothing.
-ghost use Rattle.std.specs.Prelude.{◌≡◌, ◌++◌, ◌+◌, ◌^◌, ◌≤◌, length};
-ghost use Rattle.octets.specs.Places.{Wrote};
+ghost use Rattle.std.specs.Prelude.{◌++◌, ◌+◌, ◌≤◌, length};
 ghost use Rattle.reporting.specs.Numbers.{decimal, fixed};
 ghost use Rattle.reporting.specs.Lines.{head_of, angles_of, height_of, stop_of};
+ghost use Rattle.report.specs.Writing.{HasRoom, Adds};
 
-use crate::numbers::{put_decimal, put_fixed};
-use crate::words::put_word;
+use crate::writer::Writer;
 
-// A word, and n behind it in decimal.
-fn put_number(out: &mut [u8], at: usize, word: &[u8], n: u64) -> usize
-    requires { at + length word.now + 20 ≤ length out.old }
-    ensures wrote { Wrote out.old at (word.now ++ decimal n) out.new result }
-    ensures upper_bound { result ≤ at + length word.now + 20 }
-{
-    let next = put_word(out, at, word);
-    put_decimal(out, next, n)
-}
+impl Writer<'_> {
+    // A word, and n behind it in decimal.
+    fn number(&mut self, word: &[u8], n: u64)
+        requires { HasRoom self.old (length word.now + 20) }
+        ensures { Adds (length word.now + 20) self.old (word.now ++ decimal n) self.new }
+    {
+        self.word(word);
+        self.decimal(n);
+    }
 
-// A word, and z behind it in units of 10^-places, of which unit are 1.
-fn put_measure(out: &mut [u8], at: usize, word: &[u8], z: i32, places: usize, unit: u64) -> usize
-    requires word_in_bounds { at + length word.now + 32 ≤ length out.old }
-    requires unit_value { (unit ≡ 10 ^ places) × (places ≤ 10) }
-    ensures wrote { Wrote out.old at (word.now ++ fixed places z) out.new result }
-    ensures upper_bound { result ≤ at + length word.now + 32 }
-{
-    let next = put_word(out, at, word);
-    put_fixed(out, next, z, places, unit)
-}
+    // A word, and z behind it in units of 10^-places.
+    fn measure(&mut self, word: &[u8], z: i32, places: u32)
+        requires room { HasRoom self.old (length word.now + 32) }
+        requires few_places { places ≤ 10 }
+        ensures { Adds (length word.now + 32) self.old (word.now ++ fixed places z) self.new }
+    {
+        self.word(word);
+        self.fixed(z, places);
+    }
 
-// What each line of a frame begins with.
-pub(crate) fn put_head(out: &mut [u8], at: usize, offset: u64, kind: u8, answer: u8) -> usize
-    requires { at + 62 ≤ length out.old }
-    ensures wrote { Wrote out.old at (head_of offset kind answer) out.new result }
-    ensures upper_bound { result ≤ at + 62 }
-{
-    let a = put_decimal(out, at, offset);
-    let b = put_number(out, a, b" ", kind as u64);
-    put_number(out, b, b" ", answer as u64)
-}
+    // What each line of a frame begins with.
+    pub(crate) fn head(&mut self, offset: u64, kind: u8, answer: u8)
+        requires { HasRoom self.old 62 }
+        ensures { Adds 62 self.old (head_of offset kind answer) self.new }
+    {
+        self.decimal(offset);
+        self.number(b" ", kind as u64);
+        self.number(b" ", answer as u64);
+    }
 
-// Latitude and longitude in degrees.
-pub(crate) fn put_angles(out: &mut [u8], at: usize, lat: i32, lon: i32) -> usize
-    requires { at + 82 ≤ length out.old }
-    ensures wrote { Wrote out.old at (angles_of lat lon) out.new result }
-    ensures upper_bound { result ≤ at + 82 }
-{
-    let a = put_measure(out, at, b"lat ", lat, 7, 10_000_000);
-    let b = put_measure(out, a, b" deg, lon ", lon, 7, 10_000_000);
-    put_word(out, b, b" deg")
-}
+    // Latitude and longitude in degrees.
+    pub(crate) fn angles(&mut self, lat: i32, lon: i32)
+        requires { HasRoom self.old 82 }
+        ensures { Adds 82 self.old (angles_of lat lon) self.new }
+    {
+        self.measure(b"lat ", lat, 7);
+        self.measure(b" deg, lon ", lon, 7);
+        self.word(b" deg");
+    }
 
-// Altitude in metres, and time in seconds.
-pub(crate) fn put_height(out: &mut [u8], at: usize, alt: i32, time: u32) -> usize
-    requires { at + 69 ≤ length out.old }
-    ensures wrote { Wrote out.old at (height_of alt time) out.new result }
-    ensures upper_bound { result ≤ at + 69 }
-{
-    let a = put_measure(out, at, b", alt ", alt, 2, 100);
-    let b = put_number(out, a, b" m, time ", time as u64);
-    put_word(out, b, b" s")
-}
+    // Altitude in metres, and time in seconds.
+    pub(crate) fn height(&mut self, alt: i32, time: u32)
+        requires { HasRoom self.old 69 }
+        ensures { Adds 69 self.old (height_of alt time) self.new }
+    {
+        self.measure(b", alt ", alt, 2);
+        self.number(b" m, time ", time as u64);
+        self.word(b" s");
+    }
 
-// Why a scan stopped, where, and after how many frames.
-pub(crate) fn put_stop(out: &mut [u8], at: usize, reason: u8, offset: u64, frames: u64) -> usize
-    requires { at + 80 ≤ length out.old }
-    ensures wrote { Wrote out.old at (stop_of reason offset frames) out.new result }
-    ensures upper_bound { result ≤ at + 80 }
-{
-    let a = put_number(out, at, b"stop ", reason as u64);
-    let b = put_number(out, a, b" at ", offset);
-    let c = put_number(out, b, b", frames ", frames);
-    put_word(out, c, b": ")
+    // Why a scan stopped, where, and after how many frames.
+    pub(crate) fn stop(&mut self, reason: u8, offset: u64, frames: u64)
+        requires { HasRoom self.old 80 }
+        ensures { Adds 80 self.old (stop_of reason offset frames) self.new }
+    {
+        self.number(b"stop ", reason as u64);
+        self.number(b" at ", offset);
+        self.number(b", frames ", frames);
+        self.word(b": ");
+    }
 }

@@ -2,9 +2,11 @@
 use Prim.Native.Nat.{ℕ, zero, suc, ◌+◌, ◌-◌, ◌/◌, ◌^◌, ◌≤◌, ◌<◌}
 use mathlib.Core.Path.{◌≡◌, refl, ap, ◌∙◌}
 use mathlib.Core.List.{[], ◌∷◌, ◌++◌}
-use native.Mathlib.Nat.{pow-suc}
+use native.Mathlib.Nat.{pow-suc, one-le-pow}
 use native.Mathlib.Omega.{arith}
+use lib.Dec.{lit≤}
 use lib.ListN.{length, length-append}
+use Rattle.std.proofs.Common.{max, ◌*◌}
 use Rattle.reporting.specs.Numbers.{last_digit, digits, leading, digit_count}
 
 -- the last k digits
@@ -28,28 +30,6 @@ digits_length (suc k) n = length-append (digits k (n / 10)) (last_digit n ∷ []
 
 -- how many digits
 
-enough : (j k n : ℕ) → n ≤ j → n ≤ k → leading j n ≡ leading k n
-unfolding leading
-enough zero zero n hj hk = refl
-enough zero (suc k) zero hj hk = refl
-enough zero (suc k) (suc n) hj hk = absurd (omega arith)
-enough (suc j) zero zero hj hk = refl
-enough (suc j) zero (suc n) hj hk = absurd (omega arith)
-enough (suc j) (suc k) zero hj hk = refl
-enough (suc j) (suc k) (suc n) hj hk = ap suc (enough j k (suc n / 10) (omega arith) (omega arith))
-
-pub leading_none : (k n : ℕ) → n ≡ 0 → leading k n ≡ 0
-unfolding leading
-leading_none zero n e = refl
-leading_none (suc k) zero e = refl
-leading_none (suc k) (suc n) e = absurd (omega arith)
-
-pub leading_more : (k n : ℕ) → 1 ≤ n → n ≤ k → leading k n ≡ suc (leading k (n / 10))
-unfolding leading
-leading_more zero n h l = absurd (omega arith)
-leading_more (suc k) zero h l = absurd (omega arith)
-leading_more (suc k) (suc n) h l = ap suc (enough k (suc k) (suc n / 10) (omega arith) (omega arith))
-
 -- a number below 10^k has at most k digits
 few : (k j n : ℕ) → n < 10 ^ k → leading j n ≤ k
 unfolding leading
@@ -66,4 +46,33 @@ pub count_few : (k n : ℕ) → n < 10 ^ suc k → digit_count n ≤ suc k
 count_few k n h =
     let p = pow-suc 10 k in
     let l = few k n (n / 10) (omega arith) in
+    omega arith
+
+-- a number from 10^k on has more than k, whatever the bound on their count is
+many : (k j n : ℕ) → 10 ^ k ≤ n → n ≤ j → suc k ≤ leading j n
+unfolding leading
+many k zero n h b = absurd (omega (arith, one-le-pow k 10 (lit≤ tt)))
+many k (suc j) zero h b = absurd (omega (arith, one-le-pow k 10 (lit≤ tt)))
+many zero (suc j) (suc n) h b = omega arith
+many (suc k) (suc j) (suc n) h b =
+    let p = pow-suc 10 k in
+    let l = many k j (suc n / 10) (omega arith) (omega arith) in
+    omega arith
+
+most : (k n : ℕ) → 10 ^ k ≤ n → suc k ≤ digit_count n
+most zero n h = omega arith
+most (suc k) n h =
+    let p = pow-suc 10 k in
+    let l = many k n (n / 10) (omega arith) (omega arith) in
+    omega arith
+
+-- the count of digits by the powers of 10 around a number, for 0 those around 1
+pub count_is : (k n m : ℕ) → m ≡ max n 1 → 10 ^ k ≤ m → m < 10 * 10 ^ k → suc k ≡ digit_count n
+unfolding leading
+count_is zero zero m e l h = refl
+count_is (suc k) zero m e l h = absurd (omega (arith, pow-suc 10 k, one-le-pow k 10 (lit≤ tt)))
+count_is k (suc n) m e l h =
+    let p = pow-suc 10 k in
+    let few = count_few k (suc n) (omega arith) in
+    let many = most k (suc n) (omega arith) in
     omega arith

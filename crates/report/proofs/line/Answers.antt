@@ -1,18 +1,10 @@
 -- `report::line` meets its contract. Assumes nothing.
-use mathlib.Core.Path.{sym, ◌∙◌}
-use borrow.Author.Tests.{leb-true}
-use Rattle.reporting.proofs.Room.{line_made, no_room_lem, line_at_front}
+use Rattle.std.proofs.Common.{rules, arith, sym, ◌∙◌}
+use Rattle.report.proofs.Writing.{then, adds_as, whole}
+use Rattle.report.proofs.Lines.{line_row}
 use Rattle.report.proofs.line.Goals as goal
 
-pub put_line-requires : goal.put_line-requires
-put_line-requires c = leb-true _ _ (sym c.is_enough.ensures ∙ c.if-is_enough.true)
-
-pub returns-then-is_enough : goal.returns-then-is_enough
-returns-then-is_enough c =
-    let made = line_made (sym c.is_enough.ensures ∙ c.if-is_enough.true) c.put_line.ensures in
-    record { line = made; at_front = line_at_front made }
-
-pub returns : goal.returns
-returns c =
-    let none = no_room_lem _ _ _ (sym c.is_enough.ensures ∙ c.if-is_enough.false) in
-    record { line = none; at_front = line_at_front none }
+pub returns-clause-line : goal.returns-clause-line
+returns-clause-line c =
+    whole (sym c.is_enough.ensures ∙ c.if-not-is_enough.false) c.new-line.ensures.bytes c.new-line.ensures.nothing (search rules)
+    (adds_as (line_row c.args.offset c.args.kind c.args.answer c.args.label.now c.args.s.now) (then (omega arith) (then (omega arith) (then (omega arith) (then (omega arith) c.head.ensures c.byte.ensures) c.escaped.ensures) c.escaped-2.ensures) c.byte-2.ensures))

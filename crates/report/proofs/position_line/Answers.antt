@@ -1,18 +1,14 @@
 -- `report::position_line` meets its contract. Assumes nothing.
-use mathlib.Core.Path.{sym, ◌∙◌}
-use borrow.Author.Tests.{leb-true}
-use Rattle.reporting.proofs.Room.{line_made, no_room_lem, line_at_front}
+use Rattle.std.proofs.Common.{rules, arith, ℤ, sym, ◌∙◌}
+use Rattle.reporting.specs.Lines.{angles_of, height_of}
+use Rattle.report.proofs.Writing.{then, adds_as, by_bits, both_by_bits, whole}
+use Rattle.report.proofs.Lines.{position_row}
 use Rattle.report.proofs.position_line.Goals as goal
 
-pub put_position_line-requires : goal.put_position_line-requires
-put_position_line-requires c = leb-true _ _ (sym c.is_enough.ensures ∙ c.if-is_enough.true)
-
-pub returns-then-is_enough : goal.returns-then-is_enough
-returns-then-is_enough c =
-    let made = line_made (sym c.is_enough.ensures ∙ c.if-is_enough.true) c.put_position_line.ensures in
-    record { line = made; at_front = line_at_front made }
-
-pub returns : goal.returns
-returns c =
-    let none = no_room_lem _ _ _ (sym c.is_enough.ensures ∙ c.if-is_enough.false) in
-    record { line = none; at_front = line_at_front none }
+pub returns-clause-line : goal.returns-clause-line
+returns-clause-line c =
+    let angles = both_by_bits angles_of {y = c.args.p.lat} {z = c.args.p.lon} (search rules) (search rules) c.angles.ensures in
+    let height = by_bits (λ (z : ℤ). height_of z c.args.p.time) {z = c.args.p.alt} (search rules) c.height.ensures in
+    whole (sym c.is_enough.ensures ∙ c.if-not-is_enough.false) c.new-line.ensures.bytes c.new-line.ensures.nothing (search rules)
+    (adds_as (position_row c.args.offset c.args.kind c.args.p)
+    (then (omega arith) (then (omega arith) (then (omega arith) (then (omega arith) c.head.ensures c.word.ensures) angles) height) c.byte.ensures))

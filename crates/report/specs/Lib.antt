@@ -1,0 +1,2 @@
+-- What the contracts of the crate report cite of its own.
+pub mod Writing
