@@ -8,10 +8,9 @@ use lib.IntN.{pos, neg_ℤ}
 use lib.ListN.{length, replicate}
 use Rattle.octets.specs.Numbers.{number, bytes_of}
 use Rattle.answer.specs.Answers.{not_a_frame, unknown_kind, length_for_kind, cut_short}
-use Rattle.framing.specs.declared.Front.TheVariants.{Whole, Stop}
 use Rattle.framing.specs.Position.{in_range, position_of, position_bytes}
 use Rattle.framing.specs.Kinds.{position, text, check_in, table, row_of, is_known, is_allowed}
-use Rattle.framing.specs.Front.{mark, checks, front_of}
+use Rattle.framing.specs.Front.{Whole, Stop, mark, checks, front_of}
 use Rattle.framing.specs.Scan.{none, ahead, on_front, scan_from, scan_of}
 use Rattle.framing.proofs.Fronts.{wrong_mark, wrong_kind, wrong_length, no_end, whole}
 

@@ -9,9 +9,8 @@ use lib.Dec.{eqb}
 use lib.ListN.{length, get_or}
 use Rattle.answer.specs.Answers.{done, not_a_frame, unknown_kind, length_for_kind, cut_short}
 use Rattle.answer.proofs.First.{Between, between}
-use Rattle.framing.specs.declared.Front.TheVariants.{Whole, Stop}
 use Rattle.framing.specs.Kinds.{is_known, is_allowed}
-use Rattle.framing.specs.Front.{mark, kind_of, sealed_len, taken_of, checks, stop_of, front_of}
+use Rattle.framing.specs.Front.{Whole, Stop, mark, kind_of, sealed_len, taken_of, checks, stop_of, front_of}
 
 -- a reason is what stands at the front
 stopped : (s : List ℕ) (r : ℕ) → stop_of s ≡ r → 0 < r → Stop r ≡ front_of s

@@ -11,3 +11,5 @@ pub mod NoCutFrame
 pub mod Numbers
 pub mod Orders
 pub mod Cases
+pub mod Told
+pub mod Unique

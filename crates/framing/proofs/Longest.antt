@@ -8,9 +8,7 @@ use native.Mathlib.Omega.{arith}
 use native.Mathlib.Nat.{add_assoc, add-zero, zero-add}
 use lib.ListN.{length, take, drop, length-append, length-drop, take-append-drop}
 use lib.Seq.{length-take-le, drop-append_seam, take-add, drop-drop}
-use Rattle.framing.specs.declared.Front.{Front}
-use Rattle.framing.specs.declared.Front.TheVariants.{Whole, Stop}
-use Rattle.framing.specs.Front.{front_of}
+use Rattle.framing.specs.Front.{Front, Whole, Stop, front_of}
 use Rattle.framing.specs.Scan.{Scan, none, ahead, scan_of, Scanned}
 use Rattle.answer.specs.Answers.{not_a_frame, cut_short}
 use Rattle.framing.proofs.Fronts.{reason}

@@ -8,8 +8,7 @@ use native.Mathlib.Nat.{add-zero}
 use lib.ListN.{length, take}
 use lib.Seq.{length-take-le}
 use Rattle.answer.specs.Answers.{cut_short}
-use Rattle.framing.specs.declared.Front.TheVariants.{Stop}
-use Rattle.framing.specs.Front.{front_of}
+use Rattle.framing.specs.Front.{Stop, front_of}
 use Rattle.framing.specs.Scan.{none, ahead, scan_of}
 use Rattle.framing.proofs.Whole.{is_whole, cut_frame}
 use Rattle.framing.proofs.Scans.{scan_stop}

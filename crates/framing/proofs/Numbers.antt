@@ -7,7 +7,7 @@ use mathlib.Core.Bool.{true, false}
 use lib.IntN.{pos, negsuc, neg_ℤ}
 use Rattle.octets.specs.Numbers.{number, bytes_of}
 use Rattle.framing.specs.declared.position.Position.{Position}
-use Rattle.framing.specs.declared.kind.Found.TheVariants.{Row, Unknown}
+use Rattle.std.specs.Prelude.{Some, None}
 use Rattle.framing.specs.Signed.{signed, bits_of}
 use Rattle.framing.specs.Position.{lat_min, lat_max, lon_min, lon_max, alt_min, alt_max, within, in_range, field_at, position_of, position_bytes}
 use Rattle.framing.specs.Kinds.{position, text, check_in, row, table, find_in, row_of, holds, known, allows, is_known, is_allowed, greatest, max_frame_plaintext, longest_frame}
@@ -23,12 +23,12 @@ unfolding table
 three_rows = refl
 
 -- the row of a kind is the first with its number
-pub found_rows : (find_in (row 5 1 1 1 ∷ row 6 2 2 1 ∷ row 6 3 3 1 ∷ []) 6 ≡ Row (row 6 2 2 1)) × (find_in (row 5 1 1 1 ∷ []) 6 ≡ Unknown)
-    × (row_of 1 ≡ Row (row 1 16 16 16)) × (row_of 2 ≡ Row (row 2 1 160 1)) × (row_of 3 ≡ Row (row 3 0 0 1)) × (row_of 0 ≡ Unknown) × (row_of 4 ≡ Unknown)
+pub found_rows : (find_in (row 5 1 1 1 ∷ row 6 2 2 1 ∷ row 6 3 3 1 ∷ []) 6 ≡ Some (row 6 2 2 1)) × (find_in (row 5 1 1 1 ∷ []) 6 ≡ None)
+    × (row_of 1 ≡ Some (row 1 16 16 16)) × (row_of 2 ≡ Some (row 2 1 160 1)) × (row_of 3 ≡ Some (row 3 0 0 1)) × (row_of 0 ≡ None) × (row_of 4 ≡ None)
 unfolding row_of table
 found_rows = (refl, refl, refl, refl, refl, refl, refl)
 
-pub known_rows : (known (Row (row 5 1 1 1)) ≡ true) × (known Unknown ≡ false) × (map is_known (0 ∷ 1 ∷ 2 ∷ 3 ∷ 4 ∷ 75 ∷ []) ≡ false ∷ true ∷ true ∷ true ∷ false ∷ false ∷ [])
+pub known_rows : (known (Some (row 5 1 1 1)) ≡ true) × (known None ≡ false) × (map is_known (0 ∷ 1 ∷ 2 ∷ 3 ∷ 4 ∷ 75 ∷ []) ≡ false ∷ true ∷ true ∷ true ∷ false ∷ false ∷ [])
 unfolding is_known row_of table
 known_rows = (refl, refl, refl)
 
@@ -37,9 +37,9 @@ pub stepped_lengths : map (holds (row 0 16 48 16)) (0 ∷ 15 ∷ 16 ∷ 17 ∷ 3
 stepped_lengths = refl
 
 -- a sealed part is 16 bytes longer than its plaintext: here one of 5, 7 or 9
-pub row_lengths : (map (allows (Row (row 4 5 9 2))) (5 ∷ 15 ∷ 16 ∷ 20 ∷ 21 ∷ 22 ∷ 23 ∷ 24 ∷ 25 ∷ 26 ∷ 27 ∷ [])
+pub row_lengths : (map (allows (Some (row 4 5 9 2))) (5 ∷ 15 ∷ 16 ∷ 20 ∷ 21 ∷ 22 ∷ 23 ∷ 24 ∷ 25 ∷ 26 ∷ 27 ∷ [])
     ≡ false ∷ false ∷ false ∷ false ∷ true ∷ false ∷ true ∷ false ∷ true ∷ false ∷ false ∷ [])
-    × (map (allows Unknown) (0 ∷ 16 ∷ 20 ∷ []) ≡ false ∷ false ∷ false ∷ [])
+    × (map (allows None) (0 ∷ 16 ∷ 20 ∷ []) ≡ false ∷ false ∷ false ∷ [])
 row_lengths = (refl, refl)
 
 -- position 32; text 17 to 176; check-in 16; and what is next to each

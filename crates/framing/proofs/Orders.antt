@@ -6,9 +6,8 @@ use mathlib.Core.List.{List, [], ◌∷◌}
 use mathlib.Core.Bool.{Bool, true, false}
 use native.Mathlib.Omega.{arith}
 use lib.ListN.{replicate}
-use Rattle.framing.specs.declared.Front.TheVariants.{Whole, Stop}
 use Rattle.framing.specs.Kinds.{table, row_of, is_known, is_allowed}
-use Rattle.framing.specs.Front.{checks, stop_of, front_of}
+use Rattle.framing.specs.Front.{Whole, Stop, checks, stop_of, front_of}
 use Rattle.framing.proofs.Rows.{allowed_bounds}
 use Rattle.framing.proofs.Fronts.{wrong_length}
 use Rattle.framing.proofs.Numbers.{longest_plaintext}

@@ -1,36 +1,18 @@
 -- The laws of the table of kinds. They hold of any rows; the three facts of the table itself are computed, here and nowhere
 -- else. Assumes nothing.
-use Prim.Native.Nat.{ℕ, zero, suc, ◌+◌, ◌-◌, ◌≤◌, ◌<◌, ◌%◌, max}
+use Prim.Native.Nat.{ℕ, ◌+◌, ◌-◌, ◌≤◌, ◌<◌, ◌%◌, max}
 use mathlib.Core.Path.{◌≡◌, refl, sym, ap, ◌∙◌, subst}
 use mathlib.Core.Bool.{Bool, true, false, cond, ◌&&◌}
 use mathlib.Core.List.{List, [], ◌∷◌}
 use native.Mathlib.Omega.{arith}
 use native.Mathlib.Nat.{le-max_left, le-max_right}
-use borrow.Author.Tests.{eqb-true, eq-eqb, ne_eqb, leb-true, ltb-true, le-leb, lt-leb}
+use borrow.Author.Tests.{eqb-true, leb-true, ltb-true, le-leb, lt-leb}
 use lib.Dec.{eqb, leb, ltb, ltb→lt}
-use lib.ListN.{length, get_or, drop, drop_of_length-le}
-use Rattle.framing.specs.declared.kind.Kind.{Kind}
-use Rattle.framing.specs.declared.kind.Found.{Found}
-use Rattle.framing.specs.declared.kind.Found.TheVariants.{Row, Unknown}
-use Rattle.framing.specs.Kinds.{position, table, find_in, row_of, holds, known, allows, is_known, is_allowed, greatest, max_frame_plaintext}
-
--- a search that has come to the i-th row
-module _ (kind : ℕ) (d : Kind) where
-  pub found_at : (rows : List Kind) (i : ℕ) → i < length rows → (get_or rows i d).number ≡ kind → find_in (drop i rows) kind ≡ Row (get_or rows i d)
-  found_at [] i h e = absurd (omega arith)
-  found_at (r ∷ rs) zero h e = simp (eq-eqb _ _ e)
-  found_at (r ∷ rs) (suc i) h e = found_at rs i (omega arith) e
-
-  pub passed_at : (rows : List Kind) (i : ℕ) → i < length rows → ((get_or rows i d).number ≡ kind → ⊥) → find_in (drop (suc i) rows) kind ≡ find_in (drop i rows) kind
-  passed_at [] i h e = absurd (omega arith)
-  passed_at (r ∷ rs) zero h e = sym (simp (ne_eqb _ _ e))
-  passed_at (r ∷ rs) (suc i) h e = passed_at rs i (omega arith) e
-
-pub none_left : (rows : List Kind) (kind i : ℕ) → length rows ≤ i → find_in (drop i rows) kind ≡ Unknown
-none_left rows kind i h = ap (λ (x : List Kind). find_in x kind) (drop_of_length-le rows {i = i} h)
+use Rattle.std.specs.Prelude.{Option, Some, None}
+use Rattle.framing.specs.Kinds.{TableRow, position, table, find_in, row_of, holds, known, allows, is_known, is_allowed, greatest, max_frame_plaintext}
 
 -- every row's lengths have a step, so that code may divide by it
-abbrev pub stepped : List Kind → Bool
+abbrev pub stepped : List TableRow → Bool
 stepped [] = true
 stepped (r ∷ rs) = ltb 0 r.step && stepped rs
 
@@ -39,18 +21,18 @@ both true b e = (refl, e)
 both false b e = absurd (let z : ◌≡◌ {A = ℕ} 0 1 = cc in omega arith)
 
 -- so has the row that a search finds
-found_step : (x r : Kind) (rest : Found) (b : Bool) → 0 < x.step → (rest ≡ Row r → 0 < r.step) → cond b (Row x) rest ≡ Row r → 0 < r.step
+found_step : (x r : TableRow) (rest : Option TableRow) (b : Bool) → 0 < x.step → (rest ≡ Some r → 0 < r.step) → cond b (Some x) rest ≡ Some r → 0 < r.step
 found_step x r rest true h later e = let same : x.step ≡ r.step = cc in omega arith
 found_step x r rest false h later e = later e
 
-pub found_steps : (rows : List Kind) (kind : ℕ) (r : Kind) → stepped rows ≡ true → find_in rows kind ≡ Row r → 0 < r.step
+pub found_steps : (rows : List TableRow) (kind : ℕ) (r : TableRow) → stepped rows ≡ true → find_in rows kind ≡ Some r → 0 < r.step
 found_steps [] kind r s e = absurd (let z : ◌≡◌ {A = ℕ} 0 1 = cc in omega arith)
 found_steps (x ∷ rows) kind r s e =
     let h = both (ltb 0 x.step) (stepped rows) s in
     found_step x r (find_in rows kind) (eqb x.number kind) (ltb-true 0 x.step h.0) (found_steps rows kind r h.1) e
 
 -- a sealed part holds a tag, and a plaintext from the row's least to its greatest
-held_bounds : (r : Kind) (n : ℕ) → allows (Row r) n ≡ true → (16 + r.least ≤ n) × (n ≤ 16 + r.most)
+held_bounds : (r : TableRow) (n : ℕ) → allows (Some r) n ≡ true → (16 + r.least ≤ n) × (n ≤ 16 + r.most)
 held_bounds r n e =
     let tagged = both (leb 16 n) (holds r (n - 16)) e in
     let upper = both (leb r.least (n - 16)) (leb (n - 16) r.most && eqb ((n - 16 - r.least) % r.step) 0) tagged.1 in
@@ -59,27 +41,27 @@ held_bounds r n e =
     let tag = leb-true 16 n tagged.0 in
     (omega arith, omega arith)
 
-found_bound : (x : Kind) (rest : Found) (n most : ℕ) (b : Bool) → (allows rest n ≡ true → (16 ≤ n) × (n ≤ 16 + most)) → allows (cond b (Row x) rest) n ≡ true
+found_bound : (x : TableRow) (rest : Option TableRow) (n most : ℕ) (b : Bool) → (allows rest n ≡ true → (16 ≤ n) × (n ≤ 16 + most)) → allows (cond b (Some x) rest) n ≡ true
     → (16 ≤ n) × (n ≤ 16 + max x.most most)
 found_bound x rest n most true later e = let h = held_bounds x n e in (omega arith, omega (arith, le-max_left x.most most))
 found_bound x rest n most false later e = let h = later e in (h.0, omega (arith, le-max_right x.most most))
 
 -- and none is longer than the longest plaintext of all rows
-found_bounds : (rows : List Kind) (kind n : ℕ) → allows (find_in rows kind) n ≡ true → (16 ≤ n) × (n ≤ 16 + greatest rows)
+found_bounds : (rows : List TableRow) (kind n : ℕ) → allows (find_in rows kind) n ≡ true → (16 ≤ n) × (n ≤ 16 + greatest rows)
 found_bounds [] kind n e = absurd (let z : ◌≡◌ {A = ℕ} 0 1 = cc in omega arith)
 found_bounds (x ∷ rows) kind n e = found_bound x (find_in rows kind) n (greatest rows) (eqb x.number kind) (found_bounds rows kind n) e
 
 -- what holds of the number of each row holds of every known kind
-abbrev pub Each : (ℕ → Type 0) → List Kind → Type 0
+abbrev pub Each : (ℕ → Type 0) → List TableRow → Type 0
 Each P [] = Unit {0}
 Each P (r ∷ rs) = P r.number × Each P rs
 
-one_of : (P : ℕ → Type 0) (x : Kind) (rest : Found) (kind : ℕ) (b : Bool) → eqb x.number kind ≡ b → P x.number → (known rest ≡ true → P kind)
-    → known (cond b (Row x) rest) ≡ true → P kind
+one_of : (P : ℕ → Type 0) (x : TableRow) (rest : Option TableRow) (kind : ℕ) (b : Bool) → eqb x.number kind ≡ b → P x.number → (known rest ≡ true → P kind)
+    → known (cond b (Some x) rest) ≡ true → P kind
 one_of P x rest kind true q h later e = subst P (eqb-true x.number kind q) h
 one_of P x rest kind false q h later e = later e
 
-each_found : (P : ℕ → Type 0) (rows : List Kind) → Each P rows → (kind : ℕ) → known (find_in rows kind) ≡ true → P kind
+each_found : (P : ℕ → Type 0) (rows : List TableRow) → Each P rows → (kind : ℕ) → known (find_in rows kind) ≡ true → P kind
 each_found P [] h kind e = absurd (let z : ◌≡◌ {A = ℕ} 0 1 = cc in omega arith)
 each_found P (x ∷ rows) (h, hs) kind e = one_of P x (find_in rows kind) kind (eqb x.number kind) refl h (each_found P rows hs kind) e
 
@@ -89,39 +71,39 @@ each_known P h kind e = each_found P table h kind e
 
 -- what a row says of a kind
 module _ (kind : ℕ) where
-  pub row_known : (r : Kind) → row_of kind ≡ Row r → is_known kind ≡ true
+  pub row_known : (r : TableRow) → row_of kind ≡ Some r → is_known kind ≡ true
   unfolding is_known
   row_known r e = ap known e
 
-  pub row_unknown : row_of kind ≡ Unknown → is_known kind ≡ false
+  pub row_unknown : row_of kind ≡ None → is_known kind ≡ false
   unfolding is_known
   row_unknown e = ap known e
 
   -- code may divide by its step
-  pub row_steps : (r : Kind) → row_of kind ≡ Row r → 0 < r.step
+  pub row_steps : (r : TableRow) → row_of kind ≡ Some r → 0 < r.step
   unfolding row_of table
   row_steps r e = found_steps table kind r refl e
 
   module _ (n : ℕ) where
-    untagged : (f : Found) → n < 16 → allows f n ≡ false
-    untagged (Row r) h = simp (lt-leb _ _ h)
-    untagged Unknown h = refl
+    untagged : (f : Option TableRow) → n < 16 → allows f n ≡ false
+    untagged (Some r) h = simp (lt-leb _ _ h)
+    untagged None h = refl
 
     pub too_short : n < 16 → is_allowed kind n ≡ false
     unfolding is_allowed
     too_short h = untagged (row_of kind) h
 
-    pub row_allows : (r : Kind) → row_of kind ≡ Row r → 16 ≤ n → is_allowed kind n ≡ holds r (n - 16)
+    pub row_allows : (r : TableRow) → row_of kind ≡ Some r → 16 ≤ n → is_allowed kind n ≡ holds r (n - 16)
     unfolding is_allowed
-    row_allows r e h = ap (λ (f : Found). allows f n) e ∙ simp (le-leb _ _ h)
+    row_allows r e h = ap (λ (f : Option TableRow). allows f n) e ∙ simp (le-leb _ _ h)
 
-    pub row_bounds : (r : Kind) → row_of kind ≡ Row r → is_allowed kind n ≡ true → (16 + r.least ≤ n) × (n ≤ 16 + r.most)
+    pub row_bounds : (r : TableRow) → row_of kind ≡ Some r → is_allowed kind n ≡ true → (16 + r.least ≤ n) × (n ≤ 16 + r.most)
     unfolding is_allowed
-    row_bounds r e h = held_bounds r n (sym (ap (λ (f : Found). allows f n) e) ∙ h)
+    row_bounds r e h = held_bounds r n (sym (ap (λ (f : Option TableRow). allows f n) e) ∙ h)
 
-    pub none_allows : row_of kind ≡ Unknown → is_allowed kind n ≡ false
+    pub none_allows : row_of kind ≡ None → is_allowed kind n ≡ false
     unfolding is_allowed
-    none_allows e = ap (λ (f : Found). allows f n) e
+    none_allows e = ap (λ (f : Option TableRow). allows f n) e
 
     pub allowed_bounds : is_allowed kind n ≡ true → (16 ≤ n) × (n ≤ 16 + max_frame_plaintext)
     unfolding is_allowed row_of max_frame_plaintext

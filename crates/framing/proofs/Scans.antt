@@ -7,9 +7,7 @@ use native.Mathlib.Omega.{arith}
 use borrow.Author.Tests.{eq-eqb, ne_eqb}
 use lib.Dec.{eqb}
 use lib.ListN.{length, drop, length-drop}
-use Rattle.framing.specs.declared.Front.{Front}
-use Rattle.framing.specs.declared.Front.TheVariants.{Whole, Stop}
-use Rattle.framing.specs.Front.{front_of}
+use Rattle.framing.specs.Front.{Front, Whole, Stop, front_of}
 use Rattle.framing.specs.Scan.{none, ahead, on_front, scan_from, scan_of}
 use Rattle.framing.proofs.Whole.{is_whole, whole_bounds}
 

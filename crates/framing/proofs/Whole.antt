@@ -11,9 +11,8 @@ use lib.ListN.{length, get_or, take, length-append, get_or-append}
 use lib.Seq.{length-take-le, get_or-take}
 use Rattle.answer.specs.Answers.{done, cut_short}
 use Rattle.answer.proofs.First.{Passed, Told, all_passed}
-use Rattle.framing.specs.declared.Front.TheVariants.{Whole, Stop}
 use Rattle.framing.specs.Kinds.{is_known, is_allowed, max_frame_plaintext}
-use Rattle.framing.specs.Front.{mark, kind_of, sealed_len, taken_of, checks, stop_of, front_of}
+use Rattle.framing.specs.Front.{Whole, Stop, mark, kind_of, sealed_len, taken_of, checks, stop_of, front_of}
 use Rattle.framing.proofs.Rows.{allowed_bounds}
 use Rattle.framing.proofs.Fronts.{no_mark, no_kind, no_length, no_end, whole}
 

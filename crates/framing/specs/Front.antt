@@ -1,11 +1,17 @@
 -- What stands at the front of a byte string: a whole frame, or the first reason why there is none (document 01, "Frame"
 -- and the order 9, 10, 11, 12). Assumes nothing.
-use Rattle.std.specs.Prelude.{ℕ, ◌+◌, ◌*◌, not, cond, List, [], ◌∷◌, length, get_or, eqb, ltb}
+use Rattle.std.specs.Prelude.{ℕ, ◌+◌, ◌*◌, not, cond, List, [], ◌∷◌, length, get_or, eqb, ltb, Result, Ok, Err}
 use Rattle.answer.specs.Answers.{done, not_a_frame, unknown_kind, length_for_kind, cut_short}
 use Rattle.answer.specs.First.{Refusal, ◌⇒◌, first}
-use Rattle.framing.specs.declared.Front.{Front}
-use Rattle.framing.specs.declared.Front.TheVariants.{Whole, Stop}
-use Rattle.framing.specs.Kinds.{is_known, is_allowed}
+use Rattle.answer.specs.declared.Reason.{Reason}
+use Rattle.answer.specs.Reasons.{number_of}
+use Rattle.framing.specs.declared.Extent.{Extent}
+use Rattle.framing.specs.Kinds.{is_known, is_allowed, kind_number}
+
+-- a whole frame of this kind that takes so many bytes, or the answer that says why there is none (9 to 12)
+pub data Front : Type 0 where
+  Whole : (kind taken : ℕ) → Front
+  Stop : (reason : ℕ) → Front
 
 -- byte 0
 abbrev pub mark : ℕ
@@ -40,3 +46,8 @@ stop_of s = first (checks s)
 -- the frame's kind and the bytes that it takes, or the reason
 unfoldable pub front_of : List ℕ → Front
 front_of s = cond (eqb (stop_of s) done) (Whole (kind_of s) (taken_of s)) (Stop (stop_of s))
+
+-- what code has of it
+abbrev pub front_told : Result Extent Reason → Front
+front_told (Ok e) = Whole (kind_number e.kind) e.taken
+front_told (Err reason) = Stop (number_of reason)

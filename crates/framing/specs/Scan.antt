@@ -1,9 +1,7 @@
 -- What a scan of a log finds (document 01, "Frame"): the whole frames at its front, and why there is no next one. Assumes
 -- nothing.
 use Rattle.std.specs.Prelude.{ℕ, zero, suc, ◌+◌, ◌≡◌, List, cond, length, take, drop, eqb}
-use Rattle.framing.specs.declared.Front.{Front}
-use Rattle.framing.specs.declared.Front.TheVariants.{Whole, Stop}
-use Rattle.framing.specs.Front.{front_of}
+use Rattle.framing.specs.Front.{Front, Whole, Stop, front_of}
 
 -- how many bytes the whole frames at the front take, how many they are, and why there is no next one (0 at the exact end)
 pub record Scan : Type 0 where

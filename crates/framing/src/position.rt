@@ -14,7 +14,7 @@ pub const ALT_MAX: i32 = 1_000_000;
 
 // Where a person was, and when: time in seconds. Any four numbers are a Position; whether document 01 lets it
 // stand is asked of frame::position::is_in_range.
-#[derive(Clone, Copy)]
+#[derive(Clone, Copy, Debug, PartialEq, Eq)]
 pub struct Position {
     pub lat: i32,
     pub lon: i32,
