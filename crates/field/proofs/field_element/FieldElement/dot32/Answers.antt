@@ -1,10 +1,6 @@
 -- `field::FieldElement::dot32` meets its contract. Assumes nothing.
-use Rattle.std.proofs.Common.{◌∙◌}
-use Rattle.field.specs.Element.{value}
 use Rattle.field.proofs.Element.{dot_words}
 use Rattle.field.proofs.field_element.FieldElement.dot32.Goals as goal
 
 pub returns : goal.returns
-returns c =
-    let given = c.args in
-    (λ i. record { lo = (c.dot32-narrow.ensures i).lo; hi = (c.dot32-narrow.ensures i).hi }) ∙ dot_words (value given.self) (value given.rhs)
+returns c = dot_words c.args.self c.args.rhs c.into.ensures c.into-2.ensures c.dot32-narrow.ensures c.into-3.ensures
