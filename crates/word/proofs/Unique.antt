@@ -1,10 +1,6 @@
 -- For each public function, two answers that meet its contract, as the checker reads it, are equal. Assumes nothing.
 use Rattle.std.proofs.Common.{sym, ◌∙◌}
 use Rattle.logic.specs.Promise.{Unique}
-use Rattle.word.proofs.wrapping_mul64.Kinds as wrapping_mul64_kinds
-use Rattle.word.proofs.wrapping_mul64.Reads as wrapping_mul64_reads
-use Rattle.word.proofs.wrapping_mul32.Kinds as wrapping_mul32_kinds
-use Rattle.word.proofs.wrapping_mul32.Reads as wrapping_mul32_reads
 use Rattle.word.proofs.bmul64.Kinds as bmul64_kinds
 use Rattle.word.proofs.bmul64.Reads as bmul64_reads
 use Rattle.word.proofs.bmul32.Kinds as bmul32_kinds
@@ -15,12 +11,6 @@ use Rattle.word.proofs.reverse32.Kinds as reverse32_kinds
 use Rattle.word.proofs.reverse32.Reads as reverse32_reads
 use Rattle.word.proofs.product64.Kinds as product64_kinds
 use Rattle.word.proofs.product64.Reads as product64_reads
-
-pub wrapping_mul64_unique : Unique 0 wrapping_mul64_kinds.ps wrapping_mul64_kinds.r wrapping_mul64_reads.Post
-wrapping_mul64_unique κs a x y e f p q = p ∙ sym q
-
-pub wrapping_mul32_unique : Unique 0 wrapping_mul32_kinds.ps wrapping_mul32_kinds.r wrapping_mul32_reads.Post
-wrapping_mul32_unique κs a x y e f p q = p ∙ sym q
 
 pub bmul64_unique : Unique 0 bmul64_kinds.ps bmul64_kinds.r bmul64_reads.Post
 bmul64_unique κs a x y e f p q = p ∙ sym q
