@@ -1,20 +1,38 @@
 -- The two's complement of 32 bits, as the code computes it. Assumes nothing.
 use Prim.Native.Nat.{ℕ, zero, suc, ◌+◌, ◌-◌, ◌≤◌, ◌<◌, ◌^◌}
 use mathlib.Core.Path.{◌≡◌, refl, sym, ap, ◌∙◌, subst}
-use mathlib.Core.Bool.{Bool, true, false}
+use mathlib.Core.Bool.{Bool, true, false, cond}
 use native.Mathlib.Nat.{zero-add}
 use native.Mathlib.Numerals.{add-one}
 use native.Mathlib.Omega.{arith}
 use borrow.Author.Tests.{lt-ltb, le-ltb}
 use lib.IntN.{ℤ, pos, negsuc, ◌-ℤ◌, nat_abs}
 use lib.Signed.{lt_z, non_neg}
-use lib.Dec.{T}
+use lib.Dec.{T, ltb}
 use mir.Syntax.{w32}
-use mir.Val.{to_z, of_z, SFits, Fits}
+use mir.Val.{to_z, of_z, sel, SFits, Fits}
 use mir.Facts.{to_z_pos, to_z-of_z}
 use Rattle.framing.specs.Signed.{signed, bits_of}
 use Rattle.framing.specs.Position.{within}
 use Rattle.logic.proofs.Tests.{no}
+
+-- std's casts between a signed number and its bits are those of the definitions
+cast_to : (n : ℕ) → to_z w32 n ≡ signed n
+cast_to n = by (ltb n (2 ^ 31))
+  where
+    by : (b : Bool) → sel b (pos n) (negsuc (2 ^ 32 - suc n)) ≡ cond b (pos n) (negsuc (2 ^ 32 - 1 - n))
+    by true = refl
+    by false = ap negsuc (omega arith)
+
+cast_from : (z : ℤ) → of_z w32 z ≡ bits_of z
+cast_from (pos n) = refl
+cast_from (negsuc n) = omega arith
+
+pub signed_read : {z : ℤ} {n m : ℕ} → SFits w32 z → z ≡ to_z w32 n → n ≡ m → to_z w32 (of_z w32 z) ≡ signed m
+signed_read {m = m} f e h = to_z-of_z f ∙ e ∙ ap (to_z w32) h ∙ cast_to m
+
+pub signed_written : (z : ℤ) → SFits w32 z → of_z w32 (to_z w32 (of_z w32 z)) ≡ bits_of z
+signed_written z f = ap (of_z w32) (to_z-of_z f) ∙ cast_from z
 
 minus_one : (y : ℕ) → negsuc 0 -ℤ pos y ≡ negsuc y
 minus_one zero = refl

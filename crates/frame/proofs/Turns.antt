@@ -6,8 +6,7 @@ use native.Mathlib.Omega.{arith}
 use native.Mathlib.Nat.{add_assoc, add-zero, zero-add}
 use lib.ListN.{length, take, drop, length-drop}
 use lib.Seq.{drop-drop}
-use Rattle.framing.specs.declared.Front.TheVariants.{Whole, Stop}
-use Rattle.framing.specs.Front.{front_of}
+use Rattle.framing.specs.Front.{Whole, Stop, front_of}
 use Rattle.framing.specs.Scan.{none, ahead, scan_of, Scanned}
 use Rattle.framing.proofs.Scans.{scan_end, scan_stop, scan_whole}
 

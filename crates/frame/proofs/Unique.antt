@@ -4,6 +4,9 @@ use Prim.Native.Nat.{ℕ}
 use mathlib.Core.Path.{sym, ◌∙◌}
 use mathlib.Core.List.{List}
 use Rattle.logic.specs.Promise.{Unique, Fixes}
+use Rattle.std.specs.Prelude.{Result}
+use Rattle.answer.specs.declared.Reason.{Reason}
+use Rattle.framing.proofs.Told.{one_front, one_answer}
 use Rattle.frame.proofs.kind.is_known.Kinds as is_known_kinds
 use Rattle.frame.proofs.kind.is_known.Reads as is_known_reads
 use Rattle.frame.proofs.kind.is_allowed.Kinds as is_allowed_kinds
@@ -35,13 +38,13 @@ pub is_in_range_unique : Unique 0 is_in_range_kinds.ps is_in_range_kinds.r is_in
 is_in_range_unique κs a x y e f p q = p ∙ sym q
 
 pub front_of_unique : Unique 1 front_of_kinds.ps front_of_kinds.r front_of_reads.Post
-front_of_unique κs a x y e f p q = p ∙ sym q
+front_of_unique κs a x y e f p q = one_front x y (p ∙ sym q)
 
-pub scan_unique : Fixes 3 scan_kinds.ps scan_kinds.r scan_reads.Post {T = List ℕ × (ℕ × ℕ) × ℕ × ℕ} (λ κs x e. (x.now, x.ref_ptr, e.1.0.now, e.1.1.0.now))
+pub scan_unique : Fixes 1 scan_kinds.ps scan_kinds.r scan_reads.Post {T = List ℕ × (ℕ × ℕ) × ℕ × Result Unit Reason} (λ κs x e. (x.prefix.now, x.prefix.ref_ptr, x.frames, x.stop))
 scan_unique κs a x y e f p q =
     (λ i. (
       (p.0.part_is ∙ sym q.0.part_is) i,
       (p.1 ∙ sym q.1) i,
       (p.0.frames_is ∙ sym q.0.frames_is) i,
-      (p.0.stop_is ∙ sym q.0.stop_is) i,
+      one_answer x.stop y.stop (p.0.stop_is ∙ sym q.0.stop_is) i,
     ))

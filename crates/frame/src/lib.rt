@@ -3,70 +3,82 @@
 // Assumes nothing.
 #![tactic(auto)]
 
-use framing::{Front, MARK};
-use octets::words::le16;
+use answer::Reason;
+use framing::kind::row_of;
+use framing::{Extent, MARK};
 
 pub mod kind;
 pub mod position;
 
-ghost use Rattle.std.specs.Prelude.{◌≡◌, ◌+◌, ◌<◌};
-ghost use Rattle.framing.specs.Front.{front_of};
+ghost use Rattle.std.specs.Prelude.{◌≡◌};
+ghost use Rattle.answer.specs.Reasons.{answer_of};
+ghost use Rattle.framing.specs.Front.{front_of, front_told};
 ghost use Rattle.framing.specs.Scan.{Scanned};
 
 // Decides 9 to 12 for reading, for the scan and for the log program alike. Bytes behind the frame play
 // no part; a byte that a check needs and that is not there is 12 at that check.
-pub fn front_of(s: &[u8]) -> Front
-    ensures { result ≡ front_of s.now }
+pub fn front_of(s: &[u8]) -> Result<Extent, Reason>
+    ensures { front_told result ≡ front_of s.now }
 {
-    if s.len() < 1 {
-        return Front::Stop(answer::CUT_SHORT);
+    let [mark, ..] = s else {
+        return Err(Reason::CutShort);
+    };
+    if *mark != MARK {
+        return Err(Reason::NotAFrame);
     }
-    if s[0] != MARK {
-        return Front::Stop(answer::NOT_A_FRAME);
-    }
-    if s.len() < 2 {
-        return Front::Stop(answer::CUT_SHORT);
-    }
-    let kind = s[1];
-    if !kind::is_known(kind) {
-        return Front::Stop(answer::UNKNOWN_KIND);
-    }
-    if s.len() < 4 {
-        return Front::Stop(answer::CUT_SHORT);
-    }
-    let sealed = le16(s[2], s[3]) as usize;
-    if !kind::is_allowed(kind, sealed) {
-        return Front::Stop(answer::LENGTH_FOR_KIND);
+    let [_, number, ..] = s else {
+        return Err(Reason::CutShort);
+    };
+    let row = row_of(*number).ok_or(Reason::UnknownKind)?;
+    let [_, _, low, high, ..] = s else {
+        return Err(Reason::CutShort);
+    };
+    let sealed = usize::from(u16::from_le_bytes([*low, *high]));
+    if !kind::allows(row, sealed) {
+        return Err(Reason::LengthForKind);
     }
     let taken = 16 + sealed;
     if s.len() < taken {
-        return Front::Stop(answer::CUT_SHORT);
+        return Err(Reason::CutShort);
     }
-    Front::Whole { kind, taken }
+    let kind = row.kind;
+    Ok(Extent { kind, taken })
 }
 
-// The longest prefix of log that is made of whole frames, with how many they are, and why it stopped: 0
-// at the log's exact end, else what front_of says of the rest.
-pub fn scan<'a>(log: &'a [u8], frames: &mut u64, stop: &mut u8) -> &'a [u8]
-    ensures scanned { Scanned log.now result.now frames.new stop.new }
-    ensures place { result.ref_ptr ≡ log.entry.ref_ptr }
+// What a scan of a log finds: the longest prefix that is made of whole frames, how many they are, and why it
+// stopped: what front_of says of the rest, or nothing where the log is at its exact end.
+#[derive(Clone, Copy, Debug, PartialEq, Eq)]
+pub struct Found<'a> {
+    pub prefix: &'a [u8],
+    pub frames: u64,
+    pub stop: Result<(), Reason>,
+}
+
+// Frame after frame: how far the next place is, only the frame that stands here says.
+pub fn scan<'a>(log: &'a [u8]) -> Found<'a>
+    ensures scanned { Scanned log.now result.prefix.now result.frames (answer_of result.stop) }
+    ensures place { result.prefix.ref_ptr ≡ log.entry.ref_ptr }
 {
     let mut at: usize = 0;
-    let mut count: u64 = 0;
+    let mut frames: u64 = 0;
     while at < log.len() {
         match front_of(&log[at..]) {
-            Front::Whole { kind: _, taken } => {
-                at += taken;
-                count += 1;
+            Ok(frame) => {
+                at += frame.taken;
+                frames += 1;
             }
-            Front::Stop(reason) => {
-                *frames = count;
-                *stop = reason;
-                return &log[..at];
+            Err(reason) => {
+                return Found {
+                    prefix: &log[..at],
+                    frames,
+                    stop: Err(reason),
+                };
             }
         }
     }
-    *frames = count;
-    *stop = answer::DONE;
-    &log[..at]
+    Found {
+        prefix: &log[..at],
+        frames,
+        stop: Ok(()),
+    }
 }

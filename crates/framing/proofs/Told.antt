@@ -1,5 +1,5 @@
 -- What code has of kinds, rows and fronts, as the definitions tell it: what they say fixes it, and the code's table is theirs. Assumes nothing.
-use Prim.Native.Nat.{ℕ}
+use Prim.Native.Nat.{ℕ, ◌<◌}
 use mathlib.Core.Path.{◌≡◌, refl, sym, ap, ◌∙◌}
 use mathlib.Core.Bool.{Bool, true, false, cond}
 use mathlib.Core.List.{List, [], ◌∷◌, map}
@@ -7,16 +7,27 @@ use native.Mathlib.Omega.{arith}
 use borrow.Author.Tests.{eqb-true}
 use lib.Dec.{eqb}
 use Rattle.std.specs.Prelude.{Option, Some, None, option_map}
+use Rattle.std.specs.Option.{is_some, ok_or}
 use Rattle.std.specs.List.{find}
 use Rattle.framing.specs.declared.kind.Kind.{Kind}
 use Rattle.framing.specs.declared.kind.Row.{Row}
-use Rattle.framing.specs.Kinds.{TableRow, kind_number, row_told, table, find_in, row_of, is_known}
+use Rattle.framing.specs.Kinds.{TableRow, kind_number, KindFor, row_told, table, find_in, row_of, known, allows, is_known, is_allowed}
 use Rattle.std.specs.Prelude.{Result, Ok, Err}
 use Rattle.answer.specs.declared.Reason.{Reason}
-use Rattle.answer.proofs.Reasons.{one_reason}
+use Rattle.answer.specs.Reasons.{answer_of}
+use Rattle.answer.proofs.Reasons.{never_done, one_reason}
 use Rattle.framing.specs.declared.Extent.{Extent}
 use Rattle.framing.specs.Front.{front_told}
-use Rattle.framing.proofs.Rows.{row_known, row_unknown}
+use Rattle.framing.proofs.Rows.{row_known, row_unknown, row_steps}
+
+-- where a search that found nothing is an error, and where it is none
+pub found_none : {T E : Type 0} (found : Option T) (e f : E) → ok_or found e ≡ Err f → (found ≡ None) × (f ≡ e)
+found_none (Some x) e f p = cc
+found_none None e f p = (refl, cc)
+
+pub found_some : {T E : Type 0} (found : Option T) (e : E) (x : T) → ok_or found e ≡ Ok x → found ≡ Some x
+found_some (Some y) e x p = cc
+found_some None e x p = cc
 
 -- no two kinds have one number
 pub one_kind : (a b : Kind) → kind_number a ≡ kind_number b → a ≡ b
@@ -53,6 +64,10 @@ found_number : (rows : List TableRow) (kind : ℕ) (r : TableRow) → find_in ro
 found_number [] kind r e = absurd (let z : ◌≡◌ {A = ℕ} 0 1 = cc in omega arith)
 found_number (x ∷ rows) kind r e = found_first x r (find_in rows kind) kind (eqb x.number kind) refl (found_number rows kind r) e
 
+told_some : (found : Option Row) → is_some found ≡ known (option_map row_told found)
+told_some (Some r) = refl
+told_some None = refl
+
 -- the kind that a row has is the one for the number that it was found by, and where no row is found there is none
 module _ (number : ℕ) (found : Option Row) (e : option_map row_told found ≡ row_of number) where
   pub kind_found : (r : Row) → found ≡ Some r → (kind_number r.kind ≡ number) × (is_known number ≡ true)
@@ -61,6 +76,22 @@ module _ (number : ℕ) (found : Option Row) (e : option_map row_told found ≡ 
 
   pub none_found : found ≡ None → is_known number ≡ false
   none_found f = row_unknown number (sym e ∙ ap (option_map row_told) f)
+
+  pub told_known : is_some found ≡ is_known number
+  unfolding is_known
+  told_known = told_some found ∙ ap known e
+
+  -- and what it allows, with a step that code may divide by
+  module _ (r : Row) (f : found ≡ Some r) where
+    told_row : row_of number ≡ Some (row_told r)
+    told_row = sym e ∙ ap (option_map row_told) f
+
+    pub told_steps : 0 < r.step
+    told_steps = row_steps number (row_told r) told_row
+
+    pub told_allows : (n : ℕ) → allows (Some (row_told r)) n ≡ is_allowed number n
+    unfolding is_allowed
+    told_allows n = ap (λ (x : Option TableRow). allows x n) (sym told_row)
 
 -- what is told of a front fixes it
 pub one_front : (a b : Result Extent Reason) → front_told a ≡ front_told b → a ≡ b
@@ -71,3 +102,17 @@ one_front (Ok a) (Ok b) e =
 one_front (Ok a) (Err b) e = cc
 one_front (Err a) (Ok b) e = cc
 one_front (Err a) (Err b) e = ap Err (one_reason a b cc)
+
+-- a call that returns nothing but its answer returns one thing for each answer
+pub one_answer : (a b : Result Unit Reason) → answer_of a ≡ answer_of b → a ≡ b
+one_answer (Ok _) (Ok _) e = refl
+one_answer (Ok _) (Err b) e = absurd (never_done b (sym e))
+one_answer (Err a) (Ok _) e = absurd (never_done a e)
+one_answer (Err a) (Err b) e = ap Err (one_reason a b e)
+
+-- a number has one kind, or none and one reason
+pub one_kind_for : (number : ℕ) (a b : Result Kind Reason) → KindFor number a → KindFor number b → a ≡ b
+one_kind_for number (Ok a) (Ok b) p q = ap Ok (one_kind a b (p.0 ∙ sym q.0))
+one_kind_for number (Ok a) (Err b) p q = let e : ◌≡◌ {A = Bool} true false = sym p.1 ∙ q.1 in cc
+one_kind_for number (Err a) (Ok b) p q = let e : ◌≡◌ {A = Bool} true false = sym q.1 ∙ p.1 in cc
+one_kind_for number (Err a) (Err b) p q = ap Err (p.0 ∙ sym q.0)

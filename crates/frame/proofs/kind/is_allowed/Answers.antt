@@ -1,17 +1,16 @@
 -- `frame::kind::is_allowed` meets its contract. Assumes nothing.
-use mathlib.Core.Path.{sym, ◌∙◌}
-use Rattle.framing.proofs.Rows.{too_short, row_steps, row_allows, none_allows}
+use mathlib.Core.Path.{sym, ap, ◌∙◌}
+use Rattle.std.specs.Prelude.{option_map}
+use Rattle.framing.specs.Kinds.{row_told}
+use Rattle.framing.proofs.Rows.{none_allows}
+use Rattle.framing.proofs.Told.{told_steps, told_allows}
 use Rattle.frame.proofs.kind.is_allowed.Goals as goal
 
-pub returns-then-sealed-lt16 : goal.returns-then-sealed-lt16
-returns-then-sealed-lt16 c = sym (too_short _ _ c.if-sealed-lt16.true)
+pub allows-requires : goal.allows-requires
+allows-requires c = told_steps c.args.kind c.row_of.result c.row_of.ensures c.in-Some.row c.in-Some.is
 
-pub holds-requires : goal.holds-requires
-holds-requires c = row_steps _ _ (sym c.row_of.ensures ∙ c.in-Row.is)
+pub returns-in-Some : goal.returns-in-Some
+returns-in-Some c = c.allows.ensures ∙ told_allows c.args.kind c.row_of.result c.row_of.ensures c.in-Some.row c.in-Some.is c.args.sealed
 
-pub returns-in-Row : goal.returns-in-Row
-returns-in-Row c =
-    c.holds.ensures ∙ sym (row_allows _ _ _ (sym c.row_of.ensures ∙ c.in-Row.is) c.if-sealed-lt16.false)
-
-pub returns-in-Unknown : goal.returns-in-Unknown
-returns-in-Unknown c = sym (none_allows _ _ (sym c.row_of.ensures ∙ c.in-Unknown.is))
+pub returns-in-None : goal.returns-in-None
+returns-in-None c = sym (none_allows c.args.kind c.args.sealed (sym c.row_of.ensures ∙ ap (option_map row_told) c.in-None.is))

@@ -1,5 +1,4 @@
 -- `frame::position::to_bytes` meets its contract. Assumes nothing.
-use mir.Facts.{to_z-of_z}
 use mir.Syntax.{w32}
 use mathlib.Core.Path.{ap, ◌∙◌}
 use mathlib.Core.List.{List, ◌++◌}
@@ -7,8 +6,9 @@ use Prim.Native.Nat.{ℕ}
 use borrow.Author.Rules.{rules}
 use Rattle.octets.specs.Numbers.{bytes_of}
 use Rattle.octets.proofs.Numbers.{cells}
-use Rattle.framing.specs.Signed.{bits_of}
+use Rattle.octets.proofs.Endian.{to_le}
 use Rattle.framing.specs.Position.{position_bytes}
+use Rattle.frame.proofs.Signs.{signed_written}
 use Rattle.frame.proofs.position.to_bytes.Goals as goal
 
 -- the sixteen bytes as the code takes them out of the four words
@@ -20,7 +20,7 @@ unfolding position_bytes bytes_of
 returns c =
     let p = c.args.p in
     (λ i. sixteen
-    ((c.le32_bytes-a.ensures ∙ ap (bytes_of 4) (c.to_bits.ensures ∙ ap bits_of (to_z-of_z {w = w32} {z = p.lat} (search rules)))) i)
-    ((c.le32_bytes-o.ensures ∙ ap (bytes_of 4) (c.to_bits-2.ensures ∙ ap bits_of (to_z-of_z {w = w32} {z = p.lon} (search rules)))) i)
-    ((c.le32_bytes-h.ensures ∙ ap (bytes_of 4) (c.to_bits-3.ensures ∙ ap bits_of (to_z-of_z {w = w32} {z = p.alt} (search rules)))) i)
-    (c.le32_bytes-t.ensures i))
+    ((c.to_le_bytes-a.ensures ∙ to_le w32 _ ∙ ap (bytes_of 4) (signed_written p.lat (search rules))) i)
+    ((c.to_le_bytes-o.ensures ∙ to_le w32 _ ∙ ap (bytes_of 4) (signed_written p.lon (search rules))) i)
+    ((c.to_le_bytes-h.ensures ∙ to_le w32 _ ∙ ap (bytes_of 4) (signed_written p.alt (search rules))) i)
+    ((c.to_le_bytes-t.ensures ∙ to_le w32 _) i))
