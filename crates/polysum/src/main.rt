@@ -3,135 +3,85 @@
 // error and nothing to standard output.
 #![tactic(auto)]
 
-use feeding::{Finished, Hash, Route};
+use answer::Reason;
+use feeding::{Hash, Route};
+use files::NamedFile;
 use std::fs::File;
 use std::rt::Files;
 
 // How many bytes of a file are hashed at a time.
 const PIECE: usize = 65536;
 
-// A hash on its way through a file: whether there may be more, and the answer of the last feed.
+// Why there is no tag: a file could not be read, which was told, or a call refused.
 #[derive(Clone, Copy)]
-struct Fold {
-    more: bool,
-    failed: bool,
-    answer: u8,
+enum NoTag {
+    Unread,
+    Refused(Reason),
+}
+
+impl From<Reason> for NoTag {
+    fn from(reason: Reason) -> NoTag {
+        NoTag::Refused(reason)
+    }
+}
+
+// One read, and what it read is fed; nothing at the end of the file.
+fn feed_some<R: Eprint>(
+    rt: &R,
+    file: &mut NamedFile<'_, File>,
     hash: Hash,
-}
-
-// One read, and what it read is fed. The record of a refused feed is never fed again.
-fn feed_some<R: Eprint>(rt: &R, file: &mut File, path: &[u8], hash: Hash) -> Fold {
+) -> Result<Option<Hash>, NoTag> {
     let mut buf = [0u8; PIECE];
-    let got = files::read(rt, file, path, &mut buf);
-    let n = got.count;
+    let n = file.read(rt, &mut buf).ok_or(NoTag::Unread)?;
     if n == 0 {
-        return Fold {
-            more: false,
-            failed: got.failed,
-            answer: answer::DONE,
-            hash,
+        return Ok(None);
+    }
+    let fed = hash::feed_piece(hash, Route::Wide, &buf[..n])?;
+    Ok(Some(fed.hash))
+}
+
+// All of a file. A proved loop has to end, and nothing says that a file does: the turns are counted to a number
+// that no run comes to.
+fn feed_all<R: Eprint>(rt: &R, file: &mut NamedFile<'_, File>, start: Hash) -> Result<Hash, NoTag> {
+    let mut hash = start;
+    for _ in 0..u64::MAX {
+        let Some(next) = feed_some(rt, file, hash)? else {
+            break;
         };
+        hash = next;
     }
-    let fed = hash::feed_piece(hash, Route::Wide, &buf[..n]);
-    let next = fed.hash;
-    Fold {
-        more: fed.answer == answer::DONE,
-        failed: false,
-        answer: fed.answer,
-        hash: next,
-    }
+    Ok(hash)
 }
 
-// All of a file. A proved loop has to end, and nothing says that a file does: the turns are counted down
-// from a number that no run uses up.
-fn feed_all<R: Eprint>(rt: &R, file: &mut File, path: &[u8], start: Hash) -> Fold {
-    let mut fold = Fold {
-        more: true,
-        failed: false,
-        answer: answer::DONE,
-        hash: start,
-    };
-    let mut turns = u64::MAX;
-    while turns > 0 && fold.more {
-        let hash = fold.hash;
-        fold = feed_some(rt, file, path, hash);
-        turns -= 1;
-    }
-    fold
-}
-
-// Prints a byte as two hex digits.
-fn put_byte<R: Print>(rt: &R, b: u8) {
-    let _ = print!(rt; "{b:02x}");
-}
-
-// Prints a tag in hex.
-fn put_tag<R: Print>(rt: &R, tag: [u8; 16]) {
-    let mut i = 0;
-    while i < 16 {
-        put_byte(rt, tag[i]);
-        i += 1;
-    }
-}
-
-// The answer of a call that refused, and what it means.
-fn put_refusal<R: Print>(rt: &R, answer: u8) {
-    let _ = print!(rt; "refused {answer}");
-    if answer == answer::KEY_LENGTH {
-        let _ = print!(rt; ": the key is not 16 bytes long");
-    }
-}
-
-// Prints the tag, or the answer of a finish that refused.
-fn report<R: Print>(rt: &R, done: Finished) {
-    if done.answer == answer::DONE {
-        let tag = done.tag;
-        put_tag(rt, tag);
-    } else {
-        put_refusal(rt, done.answer);
-    }
-    let _ = println!(rt);
-}
-
-// Prints the line of a call that refused.
-fn refuse<R: Print>(rt: &R, answer: u8) {
-    put_refusal(rt, answer);
-    let _ = println!(rt);
-}
-
-// Hashes the file at path under a key that was taken.
-fn hash_file<R: Files<File = File> + Print + Eprint>(rt: &R, path: &[u8], start: Hash) {
-    let Some(mut file) = files::open(rt, path) else {
-        return;
-    };
-    let fold = feed_all(rt, &mut file, path, start);
-    drop(file);
-    if fold.failed {
-        return;
-    }
-    if fold.answer != answer::DONE {
-        refuse(rt, fold.answer);
-        return;
-    }
-    let hash = fold.hash;
-    report(rt, hash::finish(hash, Route::Wide));
-}
-
-// Hashes the file at path under the key at key_path.
-fn run<R: Files<File = File> + Print + Eprint>(rt: &R, key_path: &[u8], path: &[u8]) {
+// The tag of the file at path under the key at key_path.
+fn tag_of<R: Files<File = File> + Eprint>(
+    rt: &R,
+    key_path: &[u8],
+    path: &[u8],
+) -> Result<[u8; 16], NoTag> {
     let mut key = [0u8; files::KEY_ROOM];
-    let got = files::fetch(rt, key_path, &mut key);
-    if got.failed {
-        return;
+    let n = files::fetch(rt, key_path, &mut key).ok_or(NoTag::Unread)?;
+    let started = hash::start(&key[..n])?;
+    let mut file = files::open(rt, path).ok_or(NoTag::Unread)?;
+    let hash = feed_all(rt, &mut file, started.hash)?;
+    Ok(hash::finish(hash, Route::Wide)?.tag)
+}
+
+// Prints the line of a tag, in hex.
+fn put_tag<R: Print>(rt: &R, tag: [u8; 16]) {
+    for b in tag {
+        let _ = print!(rt; "{b:02x}");
     }
-    let n = got.count;
-    let started = hash::start(&key[..n]);
-    if started.answer != answer::DONE {
-        refuse(rt, started.answer);
-        return;
-    }
-    let hash = started.hash;
-    hash_file(rt, path, hash);
+    let _ = println!(rt);
+}
+
+// Prints the line of a call that refused: its answer, and what it means.
+fn put_refusal<R: Print>(rt: &R, reason: Reason) {
+    let meaning = match reason {
+        Reason::KeyLength => ": the key is not 16 bytes long",
+        _ => "",
+    };
+    let _ = println!(rt; "refused {}{meaning}", u8::from(reason));
 }
 
 // Takes the names of both files from the words that the program was started with.
@@ -140,9 +90,13 @@ fn main(rt: HostRuntime) {
         let _ = eprintln!(rt; "usage: polysum KEY FILE");
         return;
     }
-    let mut key_path = [0u8; files::NAME_ROOM];
-    let k = files::word(&rt, 1, &mut key_path);
-    let mut path = [0u8; files::NAME_ROOM];
-    let n = files::word(&rt, 2, &mut path);
-    run(&rt, &key_path[..k], &path[..n]);
+    let mut key_room = [0u8; files::NAME_ROOM];
+    let key_path = files::word(&rt, 1, &mut key_room);
+    let mut room = [0u8; files::NAME_ROOM];
+    let path = files::word(&rt, 2, &mut room);
+    match tag_of(&rt, key_path, path) {
+        Ok(tag) => put_tag(&rt, tag),
+        Err(NoTag::Refused(reason)) => put_refusal(&rt, reason),
+        Err(NoTag::Unread) => {}
+    }
 }

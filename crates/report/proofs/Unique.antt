@@ -12,13 +12,13 @@ use Rattle.report.proofs.stop_line.Reads as stop_line_reads
 pub line_unique : Unique 3 line_kinds.ps line_kinds.r line_reads.Post
 line_unique κs a x y e f p q = p.0.length_is ∙ sym q.0.length_is
 
-pub line_memory_unique : UniqueMemory 3 line_kinds.ps line_kinds.r line_reads.Post (λ κs e. e.1.1.1.1.1.0.now)
+pub line_memory_unique : UniqueMemory 3 line_kinds.ps line_kinds.r line_reads.Post (λ κs e. e.1.1.1.1.0.now)
 line_memory_unique κs a x y e f p q = p.0.out_is ∙ sym q.0.out_is
 
 pub position_line_unique : Unique 1 position_line_kinds.ps position_line_kinds.r position_line_reads.Post
 position_line_unique κs a x y e f p q = p.0.length_is ∙ sym q.0.length_is
 
-pub position_line_memory_unique : UniqueMemory 1 position_line_kinds.ps position_line_kinds.r position_line_reads.Post (λ κs e. e.1.1.1.0.now)
+pub position_line_memory_unique : UniqueMemory 1 position_line_kinds.ps position_line_kinds.r position_line_reads.Post (λ κs e. e.1.1.0.now)
 position_line_memory_unique κs a x y e f p q = p.0.out_is ∙ sym q.0.out_is
 
 pub stop_line_unique : Unique 2 stop_line_kinds.ps stop_line_kinds.r stop_line_reads.Post

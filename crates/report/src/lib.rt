@@ -16,6 +16,13 @@ use framing::position::Position;
 // Room for all of a line but the bytes that are escaped, each of which may take four.
 pub const ROOM: usize = 256;
 
+// Which frame of a log a line speaks of: where in the log it begins, and the number of its kind.
+#[derive(Clone, Copy)]
+pub struct FrameAt {
+    pub offset: u64,
+    pub kind: u8,
+}
+
 // Whether room is enough for a line that holds n bytes to escape.
 fn is_enough(room: usize, n: usize) -> bool
     ensures { result ≡ leb (room_for n) room }
@@ -25,15 +32,15 @@ fn is_enough(room: usize, n: usize) -> bool
 
 // The line of a frame: its length, or 0 where out has no room, which it then leaves as it was. A count of what stands
 // at the front of out and not an Option: a caller prints so many bytes, and would turn None into 0 to do so.
-pub fn line(offset: u64, kind: u8, answer: u8, label: &[u8], s: &[u8], out: &mut [u8]) -> usize
-    ensures line { Line (length label.now + length s.now) (line_of offset kind answer label.now s.now) out.old out.new result }
+pub fn line(frame: FrameAt, answer: u8, label: &[u8], s: &[u8], out: &mut [u8]) -> usize
+    ensures line { Line (length label.now + length s.now) (line_of frame.offset frame.kind answer label.now s.now) out.old out.new result }
     ensures at_front { AtFront result out.new }
 {
     if !is_enough(out.len(), label.len() + s.len()) {
         return 0;
     }
     let mut line = Writer::new(out);
-    line.head(offset, kind, answer);
+    line.head(frame, answer);
     line.byte(b' ');
     line.escaped(label);
     line.escaped(s);
@@ -42,15 +49,15 @@ pub fn line(offset: u64, kind: u8, answer: u8, label: &[u8], s: &[u8], out: &mut
 }
 
 // The line of a position that was opened.
-pub fn position_line(offset: u64, kind: u8, p: Position, out: &mut [u8]) -> usize
-    ensures line { Line 0 (position_line_of offset kind p.lat p.lon p.alt p.time) out.old out.new result }
+pub fn position_line(frame: FrameAt, p: Position, out: &mut [u8]) -> usize
+    ensures line { Line 0 (position_line_of frame.offset frame.kind p.lat p.lon p.alt p.time) out.old out.new result }
     ensures at_front { AtFront result out.new }
 {
     if !is_enough(out.len(), 0) {
         return 0;
     }
     let mut line = Writer::new(out);
-    line.head(offset, kind, 0);
+    line.head(frame, 0);
     line.word(b" position: ");
     line.angles(p.lat, p.lon);
     line.height(p.alt, p.time);

@@ -5,8 +5,8 @@ ghost use Rattle.report.specs.Writing.{HasRoom, Adds};
 
 use crate::writer::Writer;
 
-// Digits of this crate's own and not std's Display: a number behind the point keeps the zeros in front, so that what
-// puts k digits is needed all the same, and `write!` answers an error, which these never have.
+// Digits by hand and not by std's Display: `write!` may answer an error, and no contract of std's says that none comes where
+// there is room, so that a line's promise could not be kept.
 
 // How many digits n has in decimal, of which a 64-bit number has at most 20.
 fn digit_count(n: u64) -> usize

@@ -4,6 +4,7 @@ ghost use Rattle.reporting.specs.Numbers.{decimal, fixed};
 ghost use Rattle.reporting.specs.Lines.{head_of, angles_of, height_of, stop_of};
 ghost use Rattle.report.specs.Writing.{HasRoom, Adds};
 
+use crate::FrameAt;
 use crate::writer::Writer;
 
 impl Writer<'_> {
@@ -27,12 +28,12 @@ impl Writer<'_> {
     }
 
     // What each line of a frame begins with.
-    pub(crate) fn head(&mut self, offset: u64, kind: u8, answer: u8)
+    pub(crate) fn head(&mut self, frame: FrameAt, answer: u8)
         requires { HasRoom self.old 62 }
-        ensures { Adds 62 self.old (head_of offset kind answer) self.new }
+        ensures { Adds 62 self.old (head_of frame.offset frame.kind answer) self.new }
     {
-        self.decimal(offset);
-        self.number(b" ", kind as u64);
+        self.decimal(frame.offset);
+        self.number(b" ", frame.kind as u64);
         self.number(b" ", answer as u64);
     }
 

@@ -1,5 +1,0 @@
--- `polysum::feed_all` is safe and ends: the measure is the number of turns that are left.
-use Rattle.polysum.proofs.feed_all.Given as goal
-
-abbrev pub decreases-loop-turns : goal.decreases-loop-turns
-decreases-loop-turns g l = l.turns
