@@ -2,15 +2,16 @@
 use Prim.Native.Nat.{ℕ, zero, suc, ◌+◌, ◌-◌, ◌*◌, ◌/◌, ◌%◌, ◌^◌, ◌≤◌, ◌<◌}
 use mathlib.Core.Path.{◌≡◌, refl, sym, ap, ◌∙◌}
 use mathlib.Core.Bool.{Bool, true, false, cond, ◌&&◌}
-use mathlib.Core.List.{List, [], ◌∷◌, ◌++◌}
+use mathlib.Core.List.{List, [], ◌∷◌}
 use native.Mathlib.Nat.{not-suc-le-zero, le_of_suc-le-suc, zero-add}
 use native.Mathlib.Numerals.{add-one}
 use native.Mathlib.Omega.{arith}
-use borrow.Author.Tests.{le-leb, lt-leb, lt-ltb, le-ltb, ltb-false}
+use borrow.Author.Tests.{le-leb, lt-ltb, le-ltb, ltb-false}
 use lib.Dec.{leb, ltb}
-use lib.ListN.{length, get_or, take, drop, set, drop_of_length-le}
+use lib.ListN.{length, get_or, drop, set, drop_of_length-le}
 use lib.Seq.{paste, paste-suc, drop-cons}
 use Rattle.std.specs.List.{list_all}
+use Rattle.std.specs.Simd.{first_chunks}
 use Rattle.digits.specs.Text.{digit, digit_of, letter, all_hex, spelled, spelling, is_decimal, all_decimal, followed, longer_by}
 use Rattle.std.specs.Prelude.{Option, Some, None, is_some}
 
@@ -97,15 +98,17 @@ length-spelled [] = refl
 length-spelled (h ∷ []) = refl
 length-spelled (h ∷ l ∷ s) = let e = length-spelled s in omega arith
 
-pub spelled_at : (s : List ℕ) (i : ℕ) → 2 * i + 1 < length s → get_or (spelled s) i 0 ≡ digit (get_or s (2 * i) 0) % 16 * 16 + digit (get_or s (2 * i + 1) 0) % 16
+-- what the byte is that a pair of digits spells
+abbrev pub pair_spells : List ℕ → ℕ
+pair_spells p = digit (get_or p 0 0) % 16 * 16 + digit (get_or p 1 0) % 16
+
+pub spelled_at : (k : ℕ) (s : List ℕ) (i : ℕ) → i < k → k ≤ length s / 2 → get_or (spelled s) i 0 ≡ pair_spells (get_or (first_chunks 2 k s) i [])
 unfolding spelled
-spelled_at [] i p = absurd (not-suc-le-zero p)
-spelled_at (h ∷ []) i p = absurd (omega arith)
-spelled_at (h ∷ l ∷ s) zero p = refl
-spelled_at (h ∷ l ∷ s) (suc i) p =
-    let e : 2 * suc i ≡ suc (suc (2 * i)) = omega arith in
-    let f : 2 * suc i + 1 ≡ suc (suc (2 * i + 1)) = omega arith in
-    rw (f, e) (spelled_at s i (omega arith))
+spelled_at zero s i p q = absurd (omega arith)
+spelled_at (suc k) [] i p q = absurd (omega arith)
+spelled_at (suc k) (h ∷ []) i p q = absurd (omega arith)
+spelled_at (suc k) (h ∷ l ∷ s) zero p q = refl
+spelled_at (suc k) (h ∷ l ∷ s) (suc i) p q = spelled_at k s i (omega arith) (omega arith)
 
 pub length-spelling : (s : List ℕ) → length (spelling s) ≡ 2 * length s
 unfolding spelling

@@ -1,7 +1,8 @@
 -- What the definitions say of small examples, computed. Assumes nothing.
 use Prim.Native.Nat.{ℕ, ◌+◌, ◌*◌}
 use mathlib.Core.Path.{◌≡◌, refl}
-use mathlib.Core.Bool.{true, false}
+use mathlib.Core.Bool.{false}
+use Rattle.std.specs.Prelude.{Some}
 use mathlib.Core.List.{List, [], ◌∷◌, ◌++◌}
 use lib.ListN.{replicate}
 use Rattle.octets.specs.Numbers.{number}
@@ -35,7 +36,7 @@ part_empty = refl
 
 -- two words: bytes 0 to 1 of the arena, which say the number 7, and bytes 1 to 4, which say 9
 abbrev two : Words
-two = record { slots = 0 ∷ 1 ∷ 7 ∷ 1 ∷ 4 ∷ 9 ∷ []; room = 5; good = true }
+two = record { slots = record { from = 0; to = 1; number = 7 } ∷ record { from = 1; to = 4; number = 9 } ∷ []; room = Some 5 }
 
 pub slot_of_a_word : slot_at two 1 0 ∷ slot_at two 1 1 ∷ slot_at two 1 2 ∷ [] ≡ 1 ∷ 4 ∷ 9 ∷ []
 slot_of_a_word = refl
@@ -73,13 +74,13 @@ ninth_byte_lost = refl
 
 -- what a call said, field by field
 abbrev fields : Said → List ℕ
-fields s = s.kind ∷ s.bytes ∷ s.a ∷ s.b ∷ s.c ∷ s.d ∷ s.e ∷ []
+fields s = s.kind ∷ s.bytes ∷ s.numbers
 
 pub said_numbers : fields (numbers_of 5 6 7) ≡ 0 ∷ 0 ∷ 5 ∷ 6 ∷ 7 ∷ 0 ∷ 0 ∷ []
 said_numbers = refl
 
 abbrev full : Said
-full = record { kind = 1; bytes = 2; a = 3; b = 4; c = 5; d = 6; e = 7 }
+full = record { kind = 1; bytes = 2; numbers = 3 ∷ 4 ∷ 5 ∷ 6 ∷ 7 ∷ [] }
 
 pub said_in_another_kind : fields (in_kind full 8) ≡ 8 ∷ 2 ∷ 3 ∷ 4 ∷ 5 ∷ 6 ∷ 7 ∷ []
 said_in_another_kind = refl

@@ -1,16 +1,15 @@
 -- Parts of strings, and numbers spelled with the highest byte first. Assumes nothing.
-use Prim.Native.Nat.{ℕ, ◌+◌, ◌*◌, ◌-◌, ◌%◌, ◌^◌, ◌≤◌, ◌<◌}
+use Prim.Native.Nat.{ℕ, suc, ◌+◌, ◌*◌, ◌-◌, ◌%◌, ◌^◌, ◌≤◌, ◌<◌}
 use mathlib.Core.Path.{◌≡◌, refl, sym, ap, ap₂, ◌∙◌}
 use mathlib.Core.Bool.{Bool, cond, ◌&&◌}
-use mathlib.Core.List.{List, [], ◌∷◌, ◌++◌, reverse, reverse-append}
+use mathlib.Core.List.{List, [], ◌∷◌, ◌++◌, reverse, reverse-append, append-nil, append_assoc}
 use native.Mathlib.Decide.{dec_le}
 use native.Mathlib.Omega.{arith}
-use native.Mathlib.Numerals.{add-one}
 use borrow.Author.Tests.{le-leb, lt-leb}
 use lib.Bits.{bit_or, or_shifted}
 use lib.Dec.{leb}
 use lib.ListN.{length, get_or, take, drop, drop_of_length-le}
-use lib.Seq.{take-suc}
+use Rattle.std.specs.List.{fold}
 use Rattle.octets.specs.Numbers.{number}
 use Rattle.octets.proofs.Parts.{part_rest}
 use Rattle.protocol.specs.Parts.{part_of}
@@ -53,9 +52,17 @@ pub high_first_more : (s : List ℕ) (b : ℕ) → b < 256 → bit_or (spelled_h
 unfolding spelled_high_first number
 high_first_more s b h = shifted_in (number (reverse s)) b h ∙ sym (ap (λ t. number t % 2 ^ 64) (reverse-append s (b ∷ [])))
 
--- a turn of the loop that reads them
-pub high_first_turn : (s : List ℕ) (i x b : ℕ) → i < length s → x ≡ spelled_high_first (take i s) → b ≡ get_or s i 0 → get_or s i 0 < 256
-    → bit_or (x * 256 % 2 ^ 64) b ≡ spelled_high_first (take (i + 1) s)
-high_first_turn s i x b l e eb h =
-    (λ j. bit_or (e j * 256 % 2 ^ 64) (eb j)) ∙ high_first_more (take i s) (get_or s i 0) h
-    ∙ ap spelled_high_first (sym (take-suc s i 0 l) ∙ ap (λ n. take n s) (sym (add-one i)))
+-- a number with one more byte behind it
+abbrev pub behind : ℕ → ℕ → ℕ
+behind x b = bit_or (x * 256 % 2 ^ 64) b
+
+-- the bytes of s, one after another, behind those of t
+high_first_fold : (t s : List ℕ) → ((i : ℕ) → get_or s i 0 < 256) → fold behind (spelled_high_first t) s ≡ spelled_high_first (t ++ s)
+high_first_fold t [] h = ap spelled_high_first (sym (append-nil t))
+high_first_fold t (b ∷ s) h =
+    ap (λ x. fold behind x s) (high_first_more t b (h 0))
+    ∙ high_first_fold (t ++ (b ∷ [])) s (λ i. h (suc i))
+    ∙ ap spelled_high_first (append_assoc t (b ∷ []) s)
+
+pub high_first_folded : (s : List ℕ) → ((i : ℕ) → get_or s i 0 < 256) → fold behind 0 s ≡ spelled_high_first s
+high_first_folded s h = ap (λ x. fold behind x s) high_first_none ∙ high_first_fold [] s h

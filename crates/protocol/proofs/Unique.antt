@@ -1,6 +1,7 @@
 -- For each public call that promises its whole answer, two answers that meet its contract, as the checker reads it, are equal; of a
 -- part that is handed back its bytes. Assumes nothing.
 use mathlib.Core.Path.{sym, ◌∙◌}
+use mathlib.Core.List.{◌∷◌}
 use Rattle.logic.specs.Promise.{Unique, Fixes}
 use Rattle.protocol.proofs.input.Reading.start.Kinds as start_kinds
 use Rattle.protocol.proofs.input.Reading.start.Reads as start_reads
@@ -10,8 +11,10 @@ use Rattle.protocol.proofs.said.Said.of_kind.Kinds as of_kind_kinds
 use Rattle.protocol.proofs.said.Said.of_kind.Reads as of_kind_reads
 use Rattle.protocol.proofs.said.Said.with_bytes.Kinds as with_bytes_kinds
 use Rattle.protocol.proofs.said.Said.with_bytes.Reads as with_bytes_reads
-use Rattle.protocol.proofs.words.arena.Kinds as arena_kinds
-use Rattle.protocol.proofs.words.arena.Reads as arena_reads
+use Rattle.protocol.proofs.waiting.Waiting.arena.Kinds as arena_kinds
+use Rattle.protocol.proofs.waiting.Waiting.arena.Reads as arena_reads
+use Rattle.protocol.proofs.waiting.Waiting.none.Kinds as none_kinds
+use Rattle.protocol.proofs.waiting.Waiting.none.Reads as none_reads
 use Rattle.protocol.proofs.words.Words.span.Kinds as span_kinds
 use Rattle.protocol.proofs.words.Words.span.Reads as span_reads
 use Rattle.protocol.proofs.words.Words.bytes.Kinds as bytes_kinds
@@ -24,7 +27,9 @@ use Rattle.protocol.proofs.words.Words.spelled.Kinds as spelled_kinds
 use Rattle.protocol.proofs.words.Words.spelled.Reads as spelled_reads
 
 pub start_unique : Unique 0 start_kinds.ps start_kinds.r start_reads.Post
-start_unique κs a x y e f p q = p ∙ sym q
+start_unique κs a x y e f p q =
+    let same = p ∙ sym q in
+    (λ i. record { from = (same i).from; to = (same i).to })
 
 pub numbers_unique : Unique 0 numbers_kinds.ps numbers_kinds.r numbers_reads.Post
 numbers_unique κs a x y e f p q = p ∙ sym q
@@ -44,7 +49,10 @@ block_unique κs a x y e f p q = p ∙ sym q
 pub spelled_unique : Unique 1 spelled_kinds.ps spelled_kinds.r spelled_reads.Post
 spelled_unique κs a x y e f p q = p ∙ sym q
 
-pub arena_unique : Fixes 1 arena_kinds.ps arena_kinds.r arena_reads.Post (λ κs x e. x.now)
+pub none_unique : Fixes 1 none_kinds.ps none_kinds.r none_reads.Post (λ κs x e. x.len ∷ x.buffer.now)
+none_unique κs a x y e f p q = (λ i. (p.0 ∙ sym q.0) i ∷ (p.1 ∙ sym q.1) i)
+
+pub arena_unique : Fixes 2 arena_kinds.ps arena_kinds.r arena_reads.Post (λ κs x e. x.now)
 arena_unique κs a x y e f p q = p ∙ sym q
 
 pub span_unique : Fixes 1 span_kinds.ps span_kinds.r span_reads.Post (λ κs x e. x.now)

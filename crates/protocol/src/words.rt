@@ -1,17 +1,16 @@
 // The words of a line, read by the letters of a request. Each word fills a slot: where its bytes begin and end in
-// the arena, and its number. A word that is not what its letter asks for is noted, and reading goes on.
+// the arena, and its number. A line with a word that is not what its letter asks for is no request.
 //
 // The letters: e an element, 16 bytes; k a stored key; c a cipher's key; b bytes; x and y words of 16 and of 8 hex
 // digits; n a number, r one that is a room and i one that is a frame's kind; t a route. A capital asks for the same
 // before a colon, as a part of a record.
-ghost use Rattle.std.specs.Prelude.{◌+◌, ◌*◌, ◌<◌, ◌≤◌, ◌≡◌, length, get_or, drop};
+ghost use Rattle.std.specs.Prelude.{◌≤◌, ◌≡◌, length};
 ghost use Rattle.protocol.specs.Words.{slot_at, span_of, block_of, spelled_high_first};
 
 use crate::parts;
-use digits::Number;
 
-// Room for the slots of the longest request, three numbers each.
-const SLOTS: usize = 27;
+// Room for the slots of the longest request.
+const SLOTS: usize = 9;
 
 // The largest output buffer that a request can ask for.
 const ROOM: u64 = 70000;
@@ -19,26 +18,11 @@ const ROOM: u64 = 70000;
 // What each byte of an output buffer is before a call.
 const UNTOUCHED: u8 = 0xa5;
 
-// Stands for a length that is free, and for the room of a request that has none.
-const ANY: usize = usize::MAX;
-
-// What the words of a line say. Where it has an output buffer, `room` is the size of it; `good`: the words are those that the
-// letters ask for, and no more.
+// What the words of a line say, and the size of its output buffer, where it has one.
 #[derive(Clone, Copy)]
 pub struct Words {
-    slots: [u64; SLOTS],
-    pub(crate) room: usize,
-    pub(crate) good: bool,
-}
-
-// Reading stands before the space or colon at `at`, or at the line's end; `fill` bytes of the arena are taken; the room that
-// was asked for; `good`: every word so far was what it should be.
-#[derive(Clone, Copy)]
-struct Cursor {
-    at: usize,
-    fill: usize,
-    room: usize,
-    good: bool,
+    slots: [Slot; SLOTS],
+    pub(crate) room: Option<usize>,
 }
 
 #[derive(Clone, Copy)]
@@ -46,245 +30,133 @@ struct Slot {
     from: usize,
     to: usize,
     number: u64,
-    good: bool,
 }
 
-// Where the line's first word ends.
-pub(crate) fn first_end(line: &[u8]) -> usize {
-    parts::find(line, 0, line.len(), b' ')
+// That of a word which is not there.
+const EMPTY: Slot = Slot {
+    from: 0,
+    to: 0,
+    number: 0,
+};
+
+// The word behind the separator at the front of `rest`, up to the next `stop` or to the line's end, and what follows.
+fn next_word(rest: &[u8], stop: u8) -> Option<(&[u8], &[u8])> {
+    let (_, text) = rest.split_first()?;
+    Some(parts::before(text, stop))
 }
 
-// Where the word behind the separator at `at` ends: before the next `stop`, or with the line.
-fn word_end(line: &[u8], at: usize, stop: u8) -> usize {
-    if at < line.len() {
-        parts::find(line, at + 1, line.len(), stop)
-    } else {
-        at
-    }
-}
-
-// That word: nothing where there is none.
-fn word(line: &[u8], at: usize, end: usize) -> &[u8] {
-    if at < end {
-        return parts::part(line, at + 1, end);
-    }
-    &line[..0]
-}
-
-// Whether a letter asks for a part of a record that a colon ends.
-fn is_capital(letter: u8) -> bool {
-    letter < b'a'
-}
-
-// What ends the word of a letter, where the line does not.
+// What ends the word of a letter, where the line does not: a capital asks for a part of a record.
 fn stop_of(letter: u8) -> u8 {
-    if is_capital(letter) { b':' } else { b' ' }
+    if letter.is_ascii_uppercase() {
+        b':'
+    } else {
+        b' '
+    }
 }
 
-// How many bytes a letter asks for, where a stored key has `key` of them.
-fn size_of(letter: u8, key: usize) -> usize {
+// How many bytes a word has to have, where its letter says that; a stored key has `key` of them, and a cipher's key 32, or else 16.
+fn size_of(letter: u8, key: usize, text: &[u8]) -> Option<usize> {
     match letter {
-        b'e' | b'E' => 16,
-        b'k' | b'K' => key,
-        b'x' => 8,
-        b'y' => 4,
-        _ => ANY,
+        b'e' | b'E' => Some(16),
+        b'k' | b'K' => Some(key),
+        b'c' => Some(if text.len() == 64 { 32 } else { 16 }),
+        b'x' => Some(8),
+        b'y' => Some(4),
+        _ => None,
     }
 }
 
-// A cipher's key has 32 bytes, or else 16.
-fn cipher_size(text: &[u8]) -> usize {
-    if text.len() == 64 { 32 } else { 16 }
+// Whether a word says as many bytes as it should: hex, or, where any number will do, `-` for none.
+fn is_bytes(text: &[u8], size: Option<usize>) -> bool {
+    match size {
+        Some(size) => text.len() / 2 == size && digits::is_hex(text),
+        None => text == b"-".as_slice() || (!text.is_empty() && digits::is_hex(text)),
+    }
 }
 
-// Whether a word says as many bytes as it should: hex, or `-` for none.
-fn is_bytes(text: &[u8], size: usize) -> bool {
-    if text == b"-".as_slice() {
-        return size == ANY;
+// The slot of a word that says bytes: they are put into the arena from `fill` on. `-` spells none.
+fn bytes_slot(text: &[u8], size: Option<usize>, arena: &mut [u8], fill: usize) -> Option<Slot> {
+    if !is_bytes(text, size) {
+        return None;
     }
-    if size == ANY {
-        return 0 < text.len() && digits::is_hex(text);
-    }
-    text.len() / 2 == size && digits::is_hex(text)
-}
-
-// The bytes that a word says, put into the arena from `fill` on: how far it is full then. `-` spells none.
-fn decoded(text: &[u8], arena: &mut [u8], fill: usize) -> usize {
-    if fill <= arena.len() {
-        let n = digits::from_hex(text, &mut arena[fill..]);
-        return fill + n;
-    }
-    fill
-}
-
-// The slot of a word that says bytes.
-fn bytes_slot(text: &[u8], size: usize, arena: &mut [u8], fill: usize) -> Slot {
-    Slot {
+    let n = digits::from_hex(text, arena.get_mut(fill..)?);
+    Some(Slot {
         from: fill,
-        to: decoded(text, arena, fill),
+        to: fill.checked_add(n)?,
         number: 0,
-        good: is_bytes(text, size),
-    }
+    })
 }
 
-// The slot of a word that says a number: it takes nothing of the arena.
-fn number_slot(said: Number, fill: usize) -> Slot {
-    match said {
-        Number::Is(n) => Slot {
-            from: fill,
-            to: fill,
-            number: n,
-            good: true,
-        },
-        Number::No => Slot {
-            from: fill,
-            to: fill,
-            number: 0,
-            good: false,
-        },
-    }
-}
-
-// The largest number that a letter takes.
-fn largest_of(letter: u8) -> u64 {
-    match letter {
+// The number that a word says, not over the largest that its letter takes.
+fn number_of(letter: u8, text: &[u8]) -> Option<u64> {
+    let largest = match letter {
         b'r' => ROOM,
         b'i' => 255,
         _ => u64::MAX,
-    }
-}
-
-// A number that is not over the largest.
-fn at_most(largest: u64, said: Number) -> Number {
-    match said {
-        Number::Is(n) => {
-            if n <= largest {
-                Number::Is(n)
-            } else {
-                Number::No
-            }
-        }
-        Number::No => Number::No,
-    }
-}
-
-// The routes by number: wide, narrow, rf.
-fn route_of(text: &[u8]) -> Number {
-    if text == b"wide".as_slice() {
-        return Number::Is(0);
-    }
-    if text == b"narrow".as_slice() {
-        return Number::Is(1);
-    }
-    if text == b"rf".as_slice() {
-        return Number::Is(2);
-    }
-    Number::No
-}
-
-// The slot of a word, as its letter asks.
-fn slot_of(letter: u8, key: usize, text: &[u8], arena: &mut [u8], fill: usize) -> Slot {
-    match letter {
-        b'n' | b'r' | b'i' => {
-            number_slot(at_most(largest_of(letter), digits::decimal(text)), fill)
-        }
-        b't' => number_slot(route_of(text), fill),
-        b'c' => bytes_slot(text, cipher_size(text), arena, fill),
-        _ => bytes_slot(text, size_of(letter, key), arena, fill),
-    }
-}
-
-// Notes slot i.
-fn put_slot(slots: &mut [u64], i: usize, s: Slot) {
-    if i < slots.len() / 3 {
-        slots[3 * i] = s.from as u64;
-        slots[3 * i + 1] = s.to as u64;
-        slots[3 * i + 2] = s.number;
-    }
-}
-
-// The room that was asked for, once the word of a letter is read.
-fn room_behind(letter: u8, s: Slot, room: usize) -> usize {
-    if letter == b'r' {
-        s.number as usize
-    } else {
-        room
-    }
-}
-
-// The next word, into slot i.
-fn next(
-    letter: u8,
-    key: usize,
-    line: &[u8],
-    arena: &mut [u8],
-    slots: &mut [u64],
-    i: usize,
-    c: Cursor,
-) -> Cursor {
-    let at = c.at;
-    let end = word_end(line, at, stop_of(letter));
-    let s = slot_of(letter, key, word(line, at, end), arena, c.fill);
-    put_slot(slots, i, s);
-    Cursor {
-        at: end,
-        fill: s.to,
-        room: room_behind(letter, s, c.room),
-        good: c.good && s.good,
-    }
-}
-
-// The words behind the first, which ends at `end`, into the slots.
-fn read_all(
-    letters: &[u8],
-    key: usize,
-    line: &[u8],
-    end: usize,
-    arena: &mut [u8],
-    slots: &mut [u64],
-) -> Cursor {
-    let mut c = Cursor {
-        at: end,
-        fill: 0,
-        room: ANY,
-        good: true,
     };
-    let mut i = 0;
-    while i < letters.len() {
-        c = next(letters[i], key, line, arena, slots, i, c);
-        i += 1;
-    }
-    c
+    digits::decimal(text).filter(|n| *n <= largest)
 }
 
-// What the words behind the first say, which ends at `end`.
-pub(crate) fn read(letters: &[u8], key: usize, line: &[u8], end: usize, arena: &mut [u8]) -> Words {
-    let mut slots = [0u64; SLOTS];
-    let c = read_all(letters, key, line, end, arena, &mut slots);
-    Words {
-        slots,
-        room: c.room,
-        good: c.good && c.at == line.len(),
+// The routes by number.
+fn route_of(text: &[u8]) -> Option<u64> {
+    match text {
+        b"wide" => Some(0),
+        b"narrow" => Some(1),
+        b"rf" => Some(2),
+        _ => None,
     }
 }
 
-// Number k of slot i, 0 where there is no such slot.
-fn slot_at(slots: [u64; SLOTS], i: usize, k: usize) -> u64
-    requires { k < 3 }
-    ensures { result ≡ get_or slots (3 * i + k) 0 }
-{
-    if i < SLOTS / 3 { slots[3 * i + k] } else { 0 }
+// The slot of a word, as its letter asks. One that says a number takes nothing of the arena.
+fn slot_of(letter: u8, key: usize, text: &[u8], arena: &mut [u8], fill: usize) -> Option<Slot> {
+    let number = match letter {
+        b'n' | b'r' | b'i' => number_of(letter, text)?,
+        b't' => route_of(text)?,
+        _ => return bytes_slot(text, size_of(letter, key, text), arena, fill),
+    };
+    Some(Slot {
+        from: fill,
+        to: fill,
+        number,
+    })
+}
+
+// What the words behind the first say. `rest` is the line from where that one ends.
+pub(crate) fn read(letters: &[u8], key: usize, line: &[u8], arena: &mut [u8]) -> Option<Words> {
+    let mut words = Words {
+        slots: [EMPTY; SLOTS],
+        room: None,
+    };
+    let mut rest = line;
+    let mut fill = 0;
+    for (i, letter) in letters.iter().enumerate() {
+        let (text, behind) = next_word(rest, stop_of(*letter))?;
+        let slot = slot_of(*letter, key, text, arena, fill)?;
+        if *letter == b'r' {
+            words.room = Some(slot.number as usize);
+        }
+        *words.slots.get_mut(i)? = slot;
+        rest = behind;
+        fill = slot.to;
+    }
+    if rest.is_empty() { Some(words) } else { None }
 }
 
 impl Words {
+    // The slot of word i.
+    fn slot(self, i: usize) -> Slot
+        ensures from { result.from ≡ slot_at self i 0 }
+        ensures to { result.to ≡ slot_at self i 1 }
+        ensures number { result.number ≡ slot_at self i 2 }
+    {
+        self.slots.get(i).copied().unwrap_or(EMPTY)
+    }
+
     // The bytes of the words from i to j: those of words that follow each other follow each other too.
     pub fn span(self, arena: &[u8], i: usize, j: usize) -> &[u8]
         ensures { result.now ≡ span_of self arena.now i j }
     {
-        let slots = self.slots;
-        let from = slot_at(slots, i, 0) as usize;
-        let to = slot_at(slots, j, 1) as usize;
-        parts::part(arena, from, to)
+        parts::part(arena, self.slot(i).from, self.slot(j).to)
     }
 
     // The bytes of word i.
@@ -298,8 +170,7 @@ impl Words {
     pub fn number(self, i: usize) -> u64
         ensures { result ≡ slot_at self i 2 }
     {
-        let slots = self.slots;
-        slot_at(slots, i, 2)
+        self.slot(i).number
     }
 
     // The first 16 bytes of word i, zeros where it has fewer.
@@ -311,7 +182,7 @@ impl Words {
         b
     }
 
-    // The number that the digits of word i spell, the highest first.
+    // The number that the digits of word i spell, the highest first: its low 64 bits.
     pub fn spelled(self, arena: &[u8], i: usize) -> u64
         ensures { result ≡ spelled_high_first (span_of self arena.now i i) }
     {
@@ -322,47 +193,19 @@ impl Words {
     pub fn room_in(self, space: &mut [u8]) -> usize
         ensures { result ≤ length space.new }
     {
-        let room = self.room;
-        if room <= space.len() {
-            clear(&mut space[0..room]);
-            return room;
+        match self.room {
+            Some(room) if room <= space.len() => {
+                space[..room].fill(UNTOUCHED);
+                room
+            }
+            _ => space.len(),
         }
-        space.len()
     }
-}
-
-// Where the bytes of the words lie: behind the `at` bytes that wait in `out`.
-pub fn arena(out: &[u8], at: usize) -> &[u8]
-    ensures { result.now ≡ drop at out.now }
-{
-    parts::part(out, at, out.len())
-}
-
-// A byte as a number of 64 bits.
-fn wide(b: u8) -> u64
-    ensures { result ≡ b }
-{
-    b as u64
 }
 
 // The number that bytes spell, the highest first: its low 64 bits.
 fn big_endian(s: &[u8]) -> u64
     ensures { result ≡ spelled_high_first s.now }
 {
-    let mut x: u64 = 0;
-    let mut i = 0;
-    while i < s.len() {
-        x = (x << 8) | wide(s[i]);
-        i += 1;
-    }
-    x
-}
-
-// Makes an output buffer as it is before each call.
-fn clear(room: &mut [u8]) {
-    let mut i = 0;
-    while i < room.len() {
-        room[i] = UNTOUCHED;
-        i += 1;
-    }
+    s.iter().fold(0, |x, b| (x << 8) | u64::from(*b))
 }
