@@ -1,6 +1,6 @@
 -- The laws of the crate record.
+pub mod Arrays
 pub mod Powers
-pub mod Whole
 pub mod Trips
 pub mod Cases
 pub mod Unique

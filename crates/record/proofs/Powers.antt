@@ -1,31 +1,20 @@
 -- The bytes of the stored powers, one behind another. Assumes nothing.
-use Prim.Native.Nat.{ℕ, ◌+◌, ◌*◌, ◌<◌}
-use mathlib.Core.Path.{◌≡◌, refl, sym, ap, ◌∙◌}
-use mathlib.Core.List.{List, [], ◌∷◌, ◌++◌, append_assoc, append-nil}
-use native.Mathlib.Numerals.{add-one}
+use Prim.Native.Nat.{ℕ, zero, suc, ◌+◌, ◌*◌, ◌<◌}
+use mathlib.Core.Path.{◌≡◌, refl, ap, ◌∙◌}
+use mathlib.Core.List.{List, [], ◌∷◌, ◌++◌, map}
 use native.Mathlib.Omega.{arith}
-use lib.ListN.{length, take, length-append}
-use lib.Seq.{take-suc}
+use lib.ListN.{length, get_or, length-append}
+use Rattle.std.specs.List.{flat_map}
 use Rattle.octets.proofs.Numbers.{bytes_of-length}
-use Rattle.field.specs.Element.{value, element}
+use Rattle.field.specs.Element.{value}
 use Rattle.feeding.specs.declared.Power.{Power}
-use Rattle.feeding.specs.Key.{power_at}
-use Rattle.record.specs.Bytes.{element_bytes, powers_bytes}
+use Rattle.record.specs.Bytes.{element_bytes, powers_bytes, power_in, powers_at}
 
-pub powers_++ : (ps qs : List Power) → powers_bytes ps ++ powers_bytes qs ≡ powers_bytes (ps ++ qs)
+-- each power and its D value, flattened
+pub powers_flat : (ps : List Power) → flat_map (λ x. x) (flat_map (λ x. x) (map (λ (p : Power). element_bytes p.h ∷ element_bytes p.d ∷ []) ps)) ≡ powers_bytes ps
 unfolding powers_bytes
-powers_++ [] qs = refl
-powers_++ (p ∷ ps) qs =
-    append_assoc (element_bytes p.h) (element_bytes p.d ++ powers_bytes ps) (powers_bytes qs)
-    ∙ ap (λ (l : List ℕ). element_bytes p.h ++ l) (append_assoc (element_bytes p.d) (powers_bytes ps) (powers_bytes qs) ∙ ap (λ (l : List ℕ). element_bytes p.d ++ l) (powers_++ ps qs))
-
-pub one_power : (p : Power) → element_bytes p.h ++ element_bytes p.d ≡ powers_bytes (p ∷ [])
-unfolding powers_bytes
-one_power p = ap (λ (l : List ℕ). element_bytes p.h ++ l) (sym (append-nil (element_bytes p.d)))
-
--- one more of them
-pub one_more : (ps : List Power) (i : ℕ) → i < length ps → powers_bytes (take i ps) ++ powers_bytes (power_at ps i ∷ []) ≡ powers_bytes (take (i + 1) ps)
-one_more ps i h = powers_++ (take i ps) (power_at ps i ∷ []) ∙ ap powers_bytes (rw add-one (sym (take-suc ps i (record { h = element 0; d = element 0 }) h)))
+powers_flat [] = refl
+powers_flat (p ∷ ps) = ap (λ (l : List ℕ). element_bytes p.h ++ (element_bytes p.d ++ l)) (powers_flat ps)
 
 pub powers_length : (ps : List Power) → length (powers_bytes ps) ≡ length ps * 32
 unfolding powers_bytes
@@ -37,3 +26,15 @@ powers_length (p ∷ ps) =
     length-append (element_bytes p.h) (element_bytes p.d ++ powers_bytes ps)
     ∙ ap (λ (n : ℕ). length (element_bytes p.h) + n) (length-append (element_bytes p.d) (powers_bytes ps))
     ∙ omega arith
+
+-- what powers_at has at an index
+pub powers_at-length : (n i : ℕ) (b : List ℕ) → length (powers_at n i b) ≡ n
+unfolding powers_at
+powers_at-length zero i b = refl
+powers_at-length (suc n) i b = ap suc (powers_at-length n (i + 32) b)
+
+pub powers_at-at : (n i k : ℕ) (b : List ℕ) (d : Power) → k < n → get_or (powers_at n i b) k d ≡ power_in (i + k * 32) b
+unfolding powers_at
+powers_at-at zero i k b d h = absurd (omega arith)
+powers_at-at (suc n) i zero b d h = let here : i ≡ i + 0 * 32 = omega arith in ap (λ (j : ℕ). power_in j b) here
+powers_at-at (suc n) i (suc k) b d h = let there : i + 32 + k * 32 ≡ i + suc k * 32 = omega arith in powers_at-at n (i + 32) k b d (omega arith) ∙ ap (λ (j : ℕ). power_in j b) there
