@@ -4,11 +4,9 @@ use mathlib.Core.Path.{◌≡◌, refl}
 use mathlib.Core.Bool.{Bool, true, false}
 use mathlib.Core.List.{List, [], ◌∷◌, ◌++◌, map}
 use lib.ListN.{take, drop, replicate}
-use Rattle.framing.specs.declared.Front.TheVariants.{Whole, Stop}
 use Rattle.framing.specs.Kinds.{table, row_of, is_known, is_allowed}
-use Rattle.framing.specs.Front.{checks, front_of}
-use Rattle.window.specs.declared.Step.TheVariants.{Frame, More, End}
-use Rattle.window.specs.Step.{on_front, step_of, values_of}
+use Rattle.framing.specs.Front.{Whole, Stop, checks, front_of}
+use Rattle.window.specs.Step.{Frame, More, End, on_front, step_of, values_of}
 use Rattle.window.specs.Slide.{inside, Slid}
 use Rattle.window.specs.Reader.{ended, before, go_on, reported}
 

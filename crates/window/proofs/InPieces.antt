@@ -10,17 +10,14 @@ use lib.Dec.{eqb}
 use lib.ListN.{length, take, drop, length-append, length-drop}
 use lib.Seq.{take-append-le, drop-append-le, length-take-le, take-add}
 use Rattle.answer.specs.Answers.{cut_short}
-use Rattle.framing.specs.declared.Front.TheVariants.{Whole, Stop}
 use Rattle.framing.specs.Kinds.{longest_frame}
-use Rattle.framing.specs.Front.{front_of}
+use Rattle.framing.specs.Front.{Whole, Stop, front_of}
 use Rattle.framing.specs.Scan.{Scan, none, ahead, scan_of}
 use Rattle.framing.proofs.Fronts.{no_mark}
 use Rattle.framing.proofs.Whole.{IsWhole, whole_is, whole_bounds, whole_before, whole_alone}
 use Rattle.framing.proofs.Scans.{scan_end, scan_stop, scan_whole}
 use Rattle.framing.proofs.Longest.{AllFrames, joined}
-use Rattle.window.specs.declared.Step.{Step}
-use Rattle.window.specs.declared.Step.TheVariants.{Frame, More, End}
-use Rattle.window.specs.Step.{step_of}
+use Rattle.window.specs.Step.{Step, Frame, More, End, step_of}
 use Rattle.window.specs.Reader.{Report, ended, before, Going, on_step, go_on, reported}
 use Rattle.window.proofs.Steps.{nothing_held, some_held, stops_anyhow}
 use Rattle.window.proofs.Views.{View, cut, wrong, frame, view}

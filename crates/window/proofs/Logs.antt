@@ -1,20 +1,13 @@
 -- What a log's length comes to, and what an answer to it says. Assumes nothing.
-use Prim.Native.Nat.{ℕ, ◌≤◌, ◌<◌}
+use Prim.Native.Nat.{ℕ, ◌≤◌}
 use mathlib.Core.Path.{◌≡◌, refl}
 use mathlib.Core.Bool.{Bool, true, false, cond}
 use native.Mathlib.Omega.{arith}
-use borrow.Author.Tests.{lt-ltb, le-ltb, ltb-false}
+use borrow.Author.Tests.{ltb-false}
 use lib.Dec.{ltb}
 use Rattle.answer.specs.Answers.{done, log_too_long}
 use Rattle.sealing.specs.Limits.{max_log}
 use Rattle.sealing.specs.Calls.{log_answer}
-
--- by the test of the code
-pub too_long : (len : ℕ) → max_log < len → log_too_long ≡ log_answer len
-too_long len h = simp (lt-ltb max_log len h)
-
-pub short_enough : (len : ℕ) → len ≤ max_log → done ≡ log_answer len
-short_enough len h = simp (le-ltb max_log len h)
 
 -- a log that is answered 0 is not too long
 pub not_too_long : (len : ℕ) → log_answer len ≡ done → len ≤ max_log

@@ -8,9 +8,8 @@ use borrow.Author.Tests.{ltb-true, ltb-false, eqb-true, eqb-false}
 use lib.Dec.{ltb, eqb}
 use lib.ListN.{length, get_or, length-append, get_or-append}
 use Rattle.answer.specs.Answers.{cut_short, not_a_frame, unknown_kind, length_for_kind}
-use Rattle.framing.specs.declared.Front.TheVariants.{Stop}
 use Rattle.framing.specs.Kinds.{is_known, is_allowed, longest_frame}
-use Rattle.framing.specs.Front.{mark, kind_of, sealed_len, taken_of, front_of}
+use Rattle.framing.specs.Front.{Stop, mark, kind_of, sealed_len, taken_of, front_of}
 use Rattle.framing.proofs.Fronts.{no_mark, wrong_mark, no_kind, wrong_kind, no_length, wrong_length, no_end, whole}
 use Rattle.framing.proofs.Rows.{allowed_bounds}
 use Rattle.framing.proofs.Whole.{IsWhole, is_whole}

@@ -1,9 +1,7 @@
 -- A reader of a log that comes in pieces, by steps: what it reports. It holds bytes that it has read and not reported, and
 -- never looks at the rest of the log. Assumes nothing.
 use Rattle.std.specs.Prelude.{ℕ, zero, suc, Bool, true, false, List, [], ◌∷◌, ◌++◌, take, drop}
-use Rattle.window.specs.declared.Step.{Step}
-use Rattle.window.specs.declared.Step.TheVariants.{Frame, More, End}
-use Rattle.window.specs.Step.{step_of}
+use Rattle.window.specs.Step.{Step, Frame, More, End, step_of}
 
 -- the frames, each by its bytes, and why there is no next one
 pub record Report : Type 0 where

@@ -1,11 +1,17 @@
 -- One step of a reader that holds some bytes of a log. Assumes nothing.
 use Rattle.std.specs.Prelude.{ℕ, Bool, true, false, cond, List, length, eqb}
 use Rattle.answer.specs.Answers.{done, cut_short}
-use Rattle.framing.specs.declared.Front.{Front}
-use Rattle.framing.specs.declared.Front.TheVariants.{Whole, Stop}
-use Rattle.framing.specs.Front.{front_of}
-use Rattle.window.specs.declared.Step.{Step}
-use Rattle.window.specs.declared.Step.TheVariants.{Frame, More, End}
+use Rattle.answer.specs.Reasons.{answer_of}
+use Rattle.framing.specs.Kinds.{kind_number}
+use Rattle.framing.specs.Front.{Front, Whole, Stop, front_of}
+use Rattle.window.specs.declared.Step.{Step as CodeStep}
+use Rattle.window.specs.declared.Step.TheVariants as code
+
+-- a frame of this kind and so many bytes is reported, more is read, or the reader stops for this reason, 0 at the exact end
+pub data Step : Type 0 where
+  Frame : (kind taken : ℕ) → Step
+  More : Step
+  End : (reason : ℕ) → Step
 
 -- what stands at the front of the bytes held: where it is cut short and the log has more, more is read
 abbrev pub on_front : Bool → Front → Step
@@ -27,3 +33,9 @@ abbrev pub values_of : Step → Values
 values_of (Frame kind taken) = record { more = false; stop = done; kind = kind; taken = taken }
 values_of More = record { more = true; stop = done; kind = 0; taken = 0 }
 values_of (End r) = record { more = false; stop = r; kind = 0; taken = 0 }
+
+-- what code has of it
+abbrev pub step_told : CodeStep → Step
+step_told (code.Frame frame) = Frame (kind_number frame.kind) frame.taken
+step_told code.More = More
+step_told (code.End stop) = End (answer_of stop)

@@ -4,70 +4,59 @@
 #![tactic(auto)]
 
 ghost use Rattle.std.specs.Prelude.{◌≡◌};
+ghost use Rattle.answer.specs.Reasons.{answer_of};
 ghost use Rattle.sealing.specs.Calls.{log_answer};
-ghost use Rattle.window.specs.Step.{step_of};
+ghost use Rattle.window.specs.Step.{step_of, step_told};
 ghost use Rattle.window.specs.Slide.{Slid};
 
-use framing::Front;
+use answer::Reason;
+use framing::Extent;
 
 // A program's answer to a log of so many bytes, before any frame of it is read: 15 where it is too long.
-pub fn log_answer(len: usize) -> u8
-    ensures { result ≡ log_answer len }
+pub fn log_answer(len: usize) -> Result<(), Reason>
+    ensures { answer_of result ≡ log_answer len }
 {
     if sealing::MAX_LOG < len {
-        return answer::LOG_TOO_LONG;
+        return Err(Reason::LogTooLong);
     }
-    answer::DONE
+    Ok(())
 }
 
 // What a reader does next: it reports the frame at the front of the bytes that it holds and drops it, or
-// it reads more of the log, or it stops for the reason given, 0 at the log's exact end.
-#[derive(Clone, Copy)]
+// it reads more of the log, or it stops for the reason given, or for none at the log's exact end.
+#[derive(Clone, Copy, Debug, PartialEq, Eq)]
 pub enum Step {
-    Frame { kind: u8, taken: usize },
+    Frame(Extent),
     More,
-    End(u8),
+    End(Result<(), Reason>),
 }
 
 // The step of a reader that holds these bytes. last says that the log has no more.
 pub fn next_step(held: &[u8], last: bool) -> Step
-    ensures { result ≡ step_of last held.now }
+    ensures { step_told result ≡ step_of last held.now }
 {
-    if held.len() == 0 {
-        if last {
-            return Step::End(answer::DONE);
-        }
-        return Step::More;
+    if held.is_empty() {
+        return if last { Step::End(Ok(())) } else { Step::More };
     }
     match frame::front_of(held) {
-        Front::Whole { kind, taken } => Step::Frame { kind, taken },
-        Front::Stop(reason) => {
-            if last {
-                return Step::End(reason);
-            }
-            if reason == answer::CUT_SHORT {
+        Ok(frame) => Step::Frame(frame),
+        Err(reason) => {
+            if !last && reason == Reason::CutShort {
                 return Step::More;
             }
-            Step::End(reason)
+            Step::End(Err(reason))
         }
     }
 }
 
 // Moves the bytes from..to to the front, and answers how many they are: what a reader holds, with the
-// room behind it free. Answers 0 and moves nothing where from..to is no part of the window.
+// room behind it free. Holds none and moves nothing where from..to is no part of the window.
 pub fn slide(window: &mut [u8], from: usize, to: usize) -> usize
     ensures { Slid window.old from to window.new result }
 {
-    if from <= to {
-        if to <= window.len() {
-            let held = to - from;
-            let mut i = 0;
-            while i < held {
-                window[i] = window[from + i];
-                i += 1;
-            }
-            return held;
-        }
+    if to < from || window.len() < to {
+        return 0;
     }
-    0
+    window.copy_within(from..to, 0);
+    to - from
 }
