@@ -60,16 +60,11 @@ fn is_number(letter: u8) -> bool {
 fn numeric(letter: u8, n: u64, out: &mut Waiting) {
     let _ = match letter {
         b'N' => write!(out, "{n}"),
-        b'I' => write!(out, "{}", low_half(n).cast_signed()),
+        b'I' => write!(out, "{}", ((n & 0xFFFF_FFFF) as u32).cast_signed()),
         b'X' => write!(out, "{n:016x}"),
         b'Y' => write!(out, "{n:08x}"),
         _ => Ok(()),
     };
-}
-
-// The word of 32 bits that a number of 64 ends with.
-fn low_half(n: u64) -> u32 {
-    (n % 0x1_0000_0000) as u32
 }
 
 // The bytes of the space that a letter of the form asks for, of which the call counted n: where it asks for an output buffer,
