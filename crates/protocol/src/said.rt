@@ -60,37 +60,32 @@ fn is_number(letter: u8) -> bool {
 fn numeric(letter: u8, n: u64, out: &mut Waiting) {
     let _ = match letter {
         b'N' => write!(out, "{n}"),
-        b'I' => write!(out, "{}", low_half(n).cast_signed()),
+        b'I' => write!(out, "{}", ((n & 0xFFFF_FFFF) as u32).cast_signed()),
         b'X' => write!(out, "{n:016x}"),
         b'Y' => write!(out, "{n:08x}"),
         _ => Ok(()),
     };
 }
 
-// The word of 32 bits that a number of 64 ends with.
-fn low_half(n: u64) -> u32 {
-    (n % 0x1_0000_0000) as u32
-}
-
-// The bytes of the space that a letter of the form asks for, of which the call counted n: where it asks for an output buffer,
-// the first `room`.
-fn bytes_of(letter: u8, space: &[u8], n: usize, room: usize) -> &[u8] {
+// The bytes of the space that a letter of the form asks for, where it asks for any; the call counted n. An output buffer is the
+// first `room`.
+fn bytes_of(letter: u8, space: &[u8], n: usize, room: usize) -> Option<&[u8]> {
     let rest = parts::part(space, n, space.len());
     match letter {
-        b'E' => parts::part(space, 0, 16),
-        b'B' => parts::part(space, 0, n),
-        b'A' => parts::part(rest, 0, 16),
-        b'P' => parts::part(rest, 16, 32),
-        _ => parts::part(space, 0, room),
+        b'E' => Some(parts::part(space, 0, 16)),
+        b'B' => Some(parts::part(space, 0, n)),
+        b'A' => Some(parts::part(rest, 0, 16)),
+        b'P' => Some(parts::part(rest, 16, 32)),
+        b'O' => Some(parts::part(space, 0, room)),
+        _ => None,
     }
 }
 
 // A letter of a form that takes no number.
 fn piece(letter: u8, s: Said, space: &[u8], room: usize, out: &mut Waiting) {
-    match letter {
-        b'E' | b'B' | b'A' | b'P' | b'O' => out.hex(bytes_of(letter, space, s.bytes, room)),
-        b',' => out.byte(b' '),
-        _ => out.byte(letter),
+    match bytes_of(letter, space, s.bytes, room) {
+        Some(bytes) => out.hex(bytes),
+        None => out.byte(if letter == b',' { b' ' } else { letter }),
     }
 }
 

@@ -9,6 +9,7 @@ use std::{fmt, io};
 const WAITING: usize = 350000;
 
 // The first `len` bytes of the buffer wait.
+#[derive(Drop)]
 pub struct Waiting<'b> {
     buffer: &'b mut [u8],
     len: usize,

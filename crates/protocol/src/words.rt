@@ -144,53 +144,16 @@ pub(crate) fn read(letters: &[u8], key: usize, line: &[u8], arena: &mut [u8]) ->
 
 impl Words {
     // The slot of word i.
-    fn slot(self, i: usize) -> Slot
-        ensures from { result.from ≡ slot_at self i 0 }
-        ensures to { result.to ≡ slot_at self i 1 }
-        ensures number { result.number ≡ slot_at self i 2 }
+    fn slot(&self, i: usize) -> Slot
+        ensures from { result.from ≡ slot_at self.now i 0 }
+        ensures to { result.to ≡ slot_at self.now i 1 }
+        ensures number { result.number ≡ slot_at self.now i 2 }
     {
         self.slots.get(i).copied().unwrap_or(EMPTY)
     }
 
-    // The bytes of the words from i to j: those of words that follow each other follow each other too.
-    pub fn span(self, arena: &[u8], i: usize, j: usize) -> &[u8]
-        ensures { result.now ≡ span_of self arena.now i j }
-    {
-        parts::part(arena, self.slot(i).from, self.slot(j).to)
-    }
-
-    // The bytes of word i.
-    pub fn bytes(self, arena: &[u8], i: usize) -> &[u8]
-        ensures { result.now ≡ span_of self arena.now i i }
-    {
-        self.span(arena, i, i)
-    }
-
-    // The number of word i.
-    pub fn number(self, i: usize) -> u64
-        ensures { result ≡ slot_at self i 2 }
-    {
-        self.slot(i).number
-    }
-
-    // The first 16 bytes of word i, zeros where it has fewer.
-    pub fn block(self, arena: &[u8], i: usize) -> [u8; 16]
-        ensures { result ≡ block_of (span_of self arena.now i i) }
-    {
-        let mut b = [0u8; 16];
-        octets::copy(self.bytes(arena, i), &mut b);
-        b
-    }
-
-    // The number that the digits of word i spell, the highest first: its low 64 bits.
-    pub fn spelled(self, arena: &[u8], i: usize) -> u64
-        ensures { result ≡ spelled_high_first (span_of self arena.now i i) }
-    {
-        big_endian(self.bytes(arena, i))
-    }
-
     // How much of the space a call may write to: its output buffer where the request has one, made as it is before each call.
-    pub fn room_in(self, space: &mut [u8]) -> usize
+    pub fn room_in(&self, space: &mut [u8]) -> usize
         ensures { result ≤ length space.new }
     {
         match self.room {
@@ -200,6 +163,53 @@ impl Words {
             }
             _ => space.len(),
         }
+    }
+}
+
+// What a line asks for: which call of its group, with which words, and the arena that their bytes lie in.
+#[derive(Clone, Copy)]
+pub struct Asked<'a> {
+    pub call: u8,
+    pub words: Words,
+    pub arena: &'a [u8],
+}
+
+impl<'a> Asked<'a> {
+    // The bytes of the words from i to j: those of words that follow each other follow each other too.
+    pub fn span(&self, i: usize, j: usize) -> &'a [u8]
+        ensures { result.now ≡ span_of self.now.words self.now.arena.now i j }
+    {
+        parts::part(self.arena, self.words.slot(i).from, self.words.slot(j).to)
+    }
+
+    // The bytes of word i.
+    pub fn bytes(&self, i: usize) -> &'a [u8]
+        ensures { result.now ≡ span_of self.now.words self.now.arena.now i i }
+    {
+        self.span(i, i)
+    }
+
+    // The number of word i.
+    pub fn number(&self, i: usize) -> u64
+        ensures { result ≡ slot_at self.now.words i 2 }
+    {
+        self.words.slot(i).number
+    }
+
+    // The first 16 bytes of word i, zeros where it has fewer.
+    pub fn block(&self, i: usize) -> [u8; 16]
+        ensures { result ≡ block_of (span_of self.now.words self.now.arena.now i i) }
+    {
+        let mut b = [0u8; 16];
+        octets::copy(self.bytes(i), &mut b);
+        b
+    }
+
+    // The number that the digits of word i spell, the highest first: its low 64 bits.
+    pub fn spelled(&self, i: usize) -> u64
+        ensures { result ≡ spelled_high_first (span_of self.now.words self.now.arena.now i i) }
+    {
+        big_endian(self.bytes(i))
     }
 }
 
