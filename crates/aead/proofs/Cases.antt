@@ -1,15 +1,11 @@
--- What the record of a key holds, beside what it encrypts with (proofs/Ciphers), and at keys that AES does not know. Assumes nothing.
-use Prim.Native.Nat.{ℕ, suc, ◌*◌}
+-- What is held of a key, also of one that AES does not know. Assumes nothing.
+use Prim.Native.Nat.{ℕ, suc}
 use mathlib.Core.Path.{◌≡◌, refl}
 use mathlib.Core.List.{List, [], ◌∷◌, ◌++◌}
 use lib.ListN.{replicate}
 use Rattle.octets.specs.Strings.{copied}
 use Rattle.fips197.specs.Table.{tab}
 use Rattle.aead.specs.Cipher.{short_cipher, long_cipher, cipher_under}
-
--- the schedule that does not count is zeros: the other length's 15 and 11 round keys
-pub others_are_zeros : (key : List ℕ) → ((short_cipher key).schedule256.bytes ≡ replicate (16 * 15) 0) × ((long_cipher key).schedule128.bytes ≡ replicate (16 * 11) 0)
-others_are_zeros key = (refl, refl)
 
 -- the key 1, 2, .., n
 abbrev counting : ℕ → List ℕ

@@ -1,7 +1,7 @@
--- The record of a key encrypts as FIPS 197 says of that key, and any record gives 16 bytes. Assumes nothing.
+-- What is held of a key encrypts as FIPS 197 says of that key, and any schedule gives 16 bytes. Assumes nothing.
 use Prim.Native.Nat.{ℕ}
 use mathlib.Core.Path.{◌≡◌, refl, ap, ◌∙◌}
-use mathlib.Core.Bool.{Bool, true, false, cond}
+use mathlib.Core.Bool.{Bool, cond}
 use mathlib.Core.List.{List}
 use mathlib.Core.Logic.{◌⊎◌, ⊎_elim}
 use borrow.Author.Tests.{eq-eqb, ne_eqb}
@@ -14,17 +14,15 @@ use Rattle.fips197.specs.Aes.{aes}
 use Rattle.fips197.proofs.Length.{cipher_length}
 use Rattle.aes.proofs.Whole.{whole128, whole256}
 use Rattle.aead.specs.declared.cipher.Cipher.{Cipher}
+use Rattle.aead.specs.declared.cipher.Cipher.TheVariants.{Short, Long}
 use Rattle.octets.specs.Strings.{copied}
 use Rattle.aead.specs.Cipher.{encrypted, short_cipher, long_cipher, cipher_under}
 use Rattle.octets.proofs.Copies.{copied_fills}
 
 pub encrypted_length : (c : Cipher) (block : List ℕ) → length (encrypted c block) ≡ 16
 unfolding encrypted
-encrypted_length c block = either c.long
-  where
-    either : (b : Bool) → length (cond b (cipher 14 c.schedule256.bytes block) (cipher 10 c.schedule128.bytes block)) ≡ 16
-    either true = cipher_length 14 c.schedule256.bytes block
-    either false = cipher_length 10 c.schedule128.bytes block
+encrypted_length (Short schedule) block = cipher_length 10 schedule.bytes block
+encrypted_length (Long schedule) block = cipher_length 14 schedule.bytes block
 
 pub short_is_aes : (key : List ℕ) → length key ≡ 16 → encrypted (short_cipher key) ≡ aes key
 unfolding encrypted

@@ -25,7 +25,7 @@ long_key_unique κs a x y e f p q = p ∙ sym q
 pub under_unique : Unique 1 under_kinds.ps under_kinds.r under_reads.Post
 under_unique κs a x y e f p q = p ∙ sym q
 
-pub encrypt_unique : Unique 0 encrypt_kinds.ps encrypt_kinds.r encrypt_reads.Post
+pub encrypt_unique : Unique 1 encrypt_kinds.ps encrypt_kinds.r encrypt_reads.Post
 encrypt_unique κs a x y e f p q = p ∙ sym q
 
 pub check_seal_unique : Unique 0 check_seal_kinds.ps check_seal_kinds.r check_seal_reads.Post

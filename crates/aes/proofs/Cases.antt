@@ -4,7 +4,7 @@ use mathlib.Core.List.{[], ◌∷◌}
 use Rattle.octets.specs.Numbers.{bytes_of}
 use Rattle.aes.specs.State.{column_row, state_of}
 
-pub columns_in_order : state_of (record { a = 0x03020100; b = 0x07060504; c = 0x0b0a0908; d = 0x0f0e0d0c })
+pub columns_in_order : state_of (0x03020100 ∷ 0x07060504 ∷ 0x0b0a0908 ∷ 0x0f0e0d0c ∷ [])
     ≡ 0 ∷ 1 ∷ 2 ∷ 3 ∷ 4 ∷ 5 ∷ 6 ∷ 7 ∷ 8 ∷ 9 ∷ 10 ∷ 11 ∷ 12 ∷ 13 ∷ 14 ∷ 15 ∷ []
 unfolding bytes_of
 columns_in_order = refl

@@ -16,7 +16,6 @@ use Rattle.fips197.specs.Field.{gmul}
 use Rattle.fips197.specs.Cipher.{mix, mix_column, sub_bytes, shift_rows, mix_columns, add_round_key, rounds, cipher}
 use Rattle.fips197.proofs.Field.{gmul_lt}
 use Rattle.aes_tables.specs.Words.{mixed0}
-use Rattle.aes.specs.declared.rounds.State.{State}
 use Rattle.aes.specs.State.{column_row, state_of}
 
 -- bytes added one by one
@@ -116,12 +115,12 @@ sixteen p q r s =
     ∷ get_or r 0 0 ∷ get_or r 1 0 ∷ get_or r 2 0 ∷ get_or r 3 0 ∷ get_or s 0 0 ∷ get_or s 1 0 ∷ get_or s 2 0 ∷ get_or s 3 0 ∷ []
 
 -- adding a round key, word by word
-pub key_law : (s k o : State) (w : List ℕ) (r : ℕ) → state_of k ≡ tab 16 (λ j. get_or w (16 * r + j) 0)
-    → o.a ≡ s.a ⊕ k.a → o.b ≡ s.b ⊕ k.b → o.c ≡ s.c ⊕ k.c → o.d ≡ s.d ⊕ k.d → state_of o ≡ add_round_key (state_of s) w r
+pub key_law : (s k : List ℕ) (w : List ℕ) (r : ℕ) → state_of k ≡ tab 16 (λ j. get_or w (16 * r + j) 0)
+    → state_of (tab 4 (λ j. get_or s j 0 ⊕ get_or k j 0)) ≡ add_round_key (state_of s) w r
 unfolding add_round_key bytes_of
-key_law s k o w r ek ea eb ec ed =
-    (λ i. beside ((ap (bytes_of 4) ea ∙ bytes_of_⊕ 4 s.a k.a) i) ((ap (bytes_of 4) eb ∙ bytes_of_⊕ 4 s.b k.b) i)
-    ((ap (bytes_of 4) ec ∙ bytes_of_⊕ 4 s.c k.c) i) ((ap (bytes_of 4) ed ∙ bytes_of_⊕ 4 s.d k.d) i))
+key_law s k w r ek =
+    (λ i. beside (bytes_of_⊕ 4 (get_or s 0 0) (get_or k 0 0) i) (bytes_of_⊕ 4 (get_or s 1 0) (get_or k 1 0) i)
+    (bytes_of_⊕ 4 (get_or s 2 0) (get_or k 2 0) i) (bytes_of_⊕ 4 (get_or s 3 0) (get_or k 3 0) i))
     ∙ ap (xors (state_of s)) ek
 
 -- a turn of the rounds, and their end

@@ -1,9 +1,9 @@
 // The key expansion, FIPS 197 section 5.2, on the schedule's bytes: word i at 4 i.
-ghost use Rattle.std.specs.Prelude.{◌≡◌, [], ◌∷◌, ◌+◌, ◌-◌, ◌*◌, ◌≤◌, ◌<◌, length, take};
-ghost use Rattle.fips197.specs.Sbox.{sbox, sbox_table};
+ghost use Rattle.std.specs.Prelude.{◌≡◌, ◌+◌, ◌-◌, ◌*◌, ◌/◌, ◌≤◌, ◌<◌, length, take};
+ghost use Rattle.fips197.specs.Sbox.{sbox_table};
 ghost use Rattle.fips197.specs.KeyExpansion as fips;
 
-use crate::{Schedule128, Schedule256};
+use crate::Schedule;
 
 // Word i of w.
 fn word(w: &[u8], i: usize) -> [u8; 4]
@@ -11,19 +11,6 @@ fn word(w: &[u8], i: usize) -> [u8; 4]
     ensures { result ≡ fips.word w.now i }
 {
     [w[4 * i], w[4 * i + 1], w[4 * i + 2], w[4 * i + 3]]
-}
-
-// SubWord of the word a, b, c, d.
-fn sub_word(a: u8, b: u8, c: u8, d: u8, table: &[u8; 256]) -> [u8; 4]
-    requires { table.now ≡ sbox_table }
-    ensures { result ≡ sbox a ∷ sbox b ∷ sbox c ∷ sbox d ∷ [] }
-{
-    [
-        table[a as usize],
-        table[b as usize],
-        table[c as usize],
-        table[d as usize],
-    ]
 }
 
 // Two words added, byte by byte.
@@ -38,61 +25,88 @@ fn rcon(j: usize) -> [u8; 4]
     ensures { result ≡ fips.rcon j }
 {
     let mut x = 1u8;
-    let mut k = 1;
-    while k < j {
+    for _k in 1..j {
         x = (x << 1) ^ ((x >> 7) * 0x1b);
-        k += 1;
     }
     [x, 0, 0, 0]
 }
 
-// What is added to word i - nk, where t is the word before word i. RotWord is in the order of SubWord's arguments.
-fn temp(t: [u8; 4], i: usize, nk: usize, table: &[u8; 256]) -> [u8; 4]
-    requires table_value { table.now ≡ sbox_table }
-    requires nk_nonzero { 0 < nk }
-    ensures { result ≡ fips.temp nk i t }
-{
-    if i % nk == 0 {
-        return sum(sub_word(t[1], t[2], t[3], t[0], table), rcon(i / nk));
-    }
-    if 6 < nk {
-        if i % nk == 4 {
-            return sub_word(t[0], t[1], t[2], t[3], table);
+// The S-box, bound once for a whole expansion.
+#[derive(Drop)]
+struct Sbox {
+    table: [u8; 256],
+    ghost is_sbox: { table ≡ sbox_table },
+}
+
+impl Sbox {
+    fn new() -> Sbox {
+        Sbox {
+            table: aes_tables::sbox_table(),
         }
     }
-    t
-}
 
-// Makes the n words of w from the first nk, which are the key.
-fn expand(w: &mut [u8], nk: usize, n: usize)
-    requires { (0 < nk) × (nk ≤ n) × (length w.old ≡ 4 * n) }
-    ensures { w.new ≡ fips.expand nk (take (4 * nk) w.old) (n - nk) }
-{
-    let table = aes_tables::sbox_table();
-    let mut i = nk;
-    while i < n {
-        let next = sum(word(w, i - nk), temp(word(w, i - 1), i, nk, &table));
-        octets::put(w, 4 * i, &next);
-        i += 1;
+    fn sub_word(&self, t: [u8; 4]) -> [u8; 4]
+        ensures { result ≡ fips.sub_word t }
+    {
+        [
+            self.table[t[0] as usize],
+            self.table[t[1] as usize],
+            self.table[t[2] as usize],
+            self.table[t[3] as usize],
+        ]
+    }
+
+    // What is added to word i - nk, where t is the word before word i.
+    fn temp(&self, t: [u8; 4], i: usize, nk: usize) -> [u8; 4]
+        requires { 0 < nk }
+        ensures { result ≡ fips.temp nk i t }
+    {
+        if i % nk == 0 {
+            return sum(self.sub_word([t[1], t[2], t[3], t[0]]), rcon(i / nk));
+        }
+        if 6 < nk && i % nk == 4 {
+            return self.sub_word(t);
+        }
+        t
     }
 }
 
-// The schedule of a key of 16 bytes.
-pub fn expand128(key: [u8; 16]) -> Schedule128
-    ensures { result.bytes ≡ fips.key_expansion 4 10 key }
+// Makes the words of w from the first nk, which are the key.
+fn expand(w: &mut [u8], nk: usize)
+    requires { (0 < nk) × (4 * nk ≤ length w.old) × (length w.old ≡ 4 * (length w.old / 4)) }
+    ensures { w.new ≡ fips.expand nk (take (4 * nk) w.old) (length w.old / 4 - nk) }
 {
-    let mut w = [0u8; 176];
-    octets::copy(&key, &mut w);
-    expand(&mut w, 4, 44);
-    Schedule128 { bytes: w }
+    let sbox = Sbox::new();
+    for i in nk..w.len() / 4 {
+        let next = sum(word(w, i - nk), sbox.temp(word(w, i - 1), i, nk));
+        octets::put(w, 4 * i, &next);
+    }
 }
 
-// The schedule of a key of 32 bytes.
-pub fn expand256(key: [u8; 32]) -> Schedule256
-    ensures { result.bytes ≡ fips.key_expansion 8 14 key }
+// The schedule of N bytes of a key of K bytes.
+fn expanded<const K: usize, const N: usize>(key: [u8; K]) -> Schedule<N>
+    requires { (0 < K / 4) × (K ≤ N) × (32 ≤ N) × (K ≡ 4 * (K / 4)) × (N ≡ 16 * (N / 16)) }
+    ensures { result.bytes ≡ fips.key_expansion (K / 4) (N / 16 - 1) key.entry }
 {
-    let mut w = [0u8; 240];
-    octets::copy(&key, &mut w);
-    expand(&mut w, 8, 60);
-    Schedule256 { bytes: w }
+    let mut bytes = [0u8; N];
+    octets::copy(&key, &mut bytes);
+    expand(&mut bytes, K / 4);
+    Schedule { bytes }
+}
+
+// One impl for each length of key: a const argument cannot be computed from another.
+impl From<[u8; 16]> for Schedule<176> {
+    ghost from_gives = { λ key schedule. schedule.bytes ≡ fips.key_expansion 4 10 key };
+
+    fn from(key: [u8; 16]) -> Schedule<176> {
+        expanded::<16, 176>(key)
+    }
+}
+
+impl From<[u8; 32]> for Schedule<240> {
+    ghost from_gives = { λ key schedule. schedule.bytes ≡ fips.key_expansion 8 14 key };
+
+    fn from(key: [u8; 32]) -> Schedule<240> {
+        expanded::<32, 240>(key)
+    }
 }

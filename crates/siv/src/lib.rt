@@ -2,91 +2,63 @@
 #![tactic(auto)]
 
 ghost use Rattle.std.specs.Prelude.{◌≡◌, cond, ◌++◌, ◌+◌, ◌≤◌, length, drop};
-ghost use Rattle.field.specs.Element.{value};
 ghost use Rattle.octets.specs.Strings.{same_bytes};
-ghost use Rattle.modes.specs.Mode.{sealed_by, tag_of};
-ghost use Rattle.aead.specs.Cipher.{encrypted};
-ghost use Rattle.rfc8452.specs.Counter.{mask_under};
-ghost use Rattle.rfc8452.specs.Tag.{tag_under};
+ghost use Rattle.modes.specs.Mode.{sealed_by};
+ghost use Rattle.siv_parts.specs.Keyed.{tag_by, mask_by};
 ghost use Rattle.answer.specs.Answers.{done, tag_differs};
 ghost use Rattle.answer.specs.Reasons.{answer_of};
 ghost use Rattle.sealing.specs.Calls.{written};
 ghost use Rattle.sealing.specs.Siv.{Seals, Opens};
 
-use aead::cipher::Cipher;
 use aead::lengths;
 use answer::Reason;
+use siv_parts::counter;
 use siv_parts::keys::Keys;
-use siv_parts::{counter, keys, tag};
-
-// The nonce as an array.
-fn nonce_of(nonce: &[u8]) -> [u8; 12]
-    requires { length nonce.now ≡ 12 }
-    ensures { result ≡ nonce.now }
-{
-    let mut n = [0u8; 12];
-    octets::copy(nonce, &mut n);
-    n
-}
-
-// The tag that stands at the end of a sealed part.
-fn tag_in(sealed: &[u8]) -> [u8; 16]
-    requires { 16 ≤ length sealed.now }
-    ensures { result ≡ tag_of sealed.now }
-{
-    let mut t = [0u8; 16];
-    let at = sealed.len() - 16;
-    octets::copy(&sealed[at..], &mut t);
-    t
-}
 
 // A text, masked under a tag, goes to the front of out. Sealing and opening both write so.
-fn put_masked(cipher: Cipher, tag: [u8; 16], text: &[u8], out: &mut [u8])
+fn put_masked(keys: &Keys, tag: [u8; 16], text: &[u8], out: &mut [u8])
     requires { length text.now ≤ length out.old }
-    ensures { out.new ≡ mask_under (encrypted cipher) tag text.now ++ drop (length text.now) out.old }
+    ensures { out.new ≡ mask_by keys.now tag text.now ++ drop (length text.now) out.old }
 {
     octets::copy(text, out);
     let n = text.len();
-    counter::mask(cipher, counter::counter_block(tag), &mut out[..n]);
+    counter::mask(&keys.cipher, counter::counter_block(tag), &mut out[..n]);
 }
 
 // The sealed part goes to the front of out: the masked text, then the tag.
-fn put_sealed(keys: Keys, nonce: [u8; 12], ad: &[u8], text: &[u8], out: &mut [u8])
+fn put_sealed(keys: &Keys, ad: &[u8], text: &[u8], out: &mut [u8])
     requires { length text.now + 16 ≤ length out.old }
-    ensures { out.new ≡ sealed_by (mask_under (encrypted keys.cipher)) (tag_under (value keys.hash) (encrypted keys.cipher) nonce ad.now) text.now ++ drop (length text.now + 16) out.old }
+    ensures { out.new ≡ sealed_by (mask_by keys.now) (tag_by keys.now ad.now) text.now ++ drop (length text.now + 16) out.old }
 {
-    let t = tag::text_tag(keys, nonce, ad, text);
-    let cipher = keys.cipher;
-    put_masked(cipher, t, text, out);
+    let t = keys.text_tag(ad, text);
+    put_masked(keys, t, text, out);
     let n = text.len();
     octets::copy(&t, &mut out[n..]);
 }
 
 // Whether the text that a body hides has the tag that came with it. It is not lent the output.
-fn is_authentic(keys: Keys, nonce: [u8; 12], ad: &[u8], body: &[u8], tag: [u8; 16]) -> bool
-    ensures { result ≡ same_bytes (tag_under (value keys.hash) (encrypted keys.cipher) nonce ad.now (mask_under (encrypted keys.cipher) tag body.now)) tag }
+fn is_authentic(keys: &Keys, ad: &[u8], body: &[u8], tag: [u8; 16]) -> bool
+    ensures { result ≡ same_bytes (tag_by keys.now ad.now (mask_by keys.now tag body.now)) tag }
 {
-    octets::same_tag(tag::body_tag(keys, nonce, ad, tag, body), tag)
+    octets::same_tag(keys.body_tag(ad, tag, body), tag)
 }
 
 // The text that a body hides goes to the front of out, once its tag has agreed; else out stays as it was.
 fn put_opened(
-    keys: Keys,
-    nonce: [u8; 12],
+    keys: &Keys,
     ad: &[u8],
     body: &[u8],
     tag: [u8; 16],
     out: &mut [u8],
 ) -> Result<(), Reason>
     requires { length body.now ≤ length out.old }
-    ensures answer { answer_of result ≡ cond (same_bytes (tag_under (value keys.hash) (encrypted keys.cipher) nonce ad.now (mask_under (encrypted keys.cipher) tag body.now)) tag) done tag_differs }
-    ensures memory { out.new ≡ written (answer_of result) (mask_under (encrypted keys.cipher) tag body.now) out.old }
+    ensures answer { answer_of result ≡ cond (same_bytes (tag_by keys.now ad.now (mask_by keys.now tag body.now)) tag) done tag_differs }
+    ensures memory { out.new ≡ written (answer_of result) (mask_by keys.now tag body.now) out.old }
 {
-    if !is_authentic(keys, nonce, ad, body, tag) {
+    if !is_authentic(keys, ad, body, tag) {
         return Err(Reason::TagDiffers);
     }
-    let cipher = keys.cipher;
-    put_masked(cipher, tag, body, out);
+    put_masked(keys, tag, body, out);
     Ok(())
 }
 
@@ -101,8 +73,8 @@ pub fn seal(
     ensures { Seals key.now nonce.now ad.now plaintext.now out.old (answer_of result) out.new }
 {
     lengths::check_seal(key.len(), nonce.len(), ad.len(), plaintext.len(), out.len())?;
-    let n = nonce_of(nonce);
-    put_sealed(keys::derive(key, n), n, ad, plaintext, out);
+    let keys = Keys::derive(key, *nonce.as_array().unwrap());
+    put_sealed(&keys, ad, plaintext, out);
     Ok(())
 }
 
@@ -118,9 +90,7 @@ pub fn open(
     ensures { Opens key.now nonce.now ad.now sealed.now out.old (answer_of result) out.new }
 {
     lengths::check_open(key.len(), nonce.len(), ad.len(), sealed.len(), out.len())?;
-    let n = nonce_of(nonce);
-    let keys = keys::derive(key, n);
-    let t = tag_in(sealed);
-    let end = sealed.len() - 16;
-    put_opened(keys, n, ad, &sealed[..end], t, out)
+    let keys = Keys::derive(key, *nonce.as_array().unwrap());
+    let (body, tag) = sealed.split_last_chunk().unwrap();
+    put_opened(&keys, ad, body, *tag, out)
 }

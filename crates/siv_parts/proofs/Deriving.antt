@@ -1,41 +1,28 @@
 -- The pieces of a derived key, as code puts them together, and that the keys so made are RFC 8452's. Assumes nothing.
-use Rattle.std.proofs.Common.{◌≡◌, ℕ, ◌+◌, ◌/◌, ◌%◌, ◌<◌, Bool, true, false, cond, eqb, ◌⊎◌, List, ◌∷◌, ◌++◌, length, take, drop, replicate, sym, ap, ◌∙◌, ap₂, inl, inr, ⊎_elim, append-nil, arith, length-append, length-take-le, take_all, take_at, drop_at, eq-eqb, ne_eqb}
+use Rattle.std.proofs.Common.{◌≡◌, ℕ, ◌+◌, Bool, true, false, cond, eqb, ◌⊎◌, List, ◌++◌, length, take, drop, sym, ap, ◌∙◌, ap₂, inl, inr, ⊎_elim, append-nil, arith, refl, drop_of_length-le, length-append, length-drop, length-take-le, take_at, eq-eqb, ne_eqb}
 use Rattle.octets.specs.Numbers.{number, bytes_of}
-use Rattle.octets.proofs.Numbers.{cells, cells_part}
 use Rattle.fips197.specs.Aes.{aes}
 use Rattle.field.specs.Element.{value, element}
 use Rattle.aead.specs.declared.cipher.Cipher.{Cipher}
 use Rattle.octets.specs.Strings.{copied}
 use Rattle.aead.specs.Cipher.{encrypted, short_cipher, long_cipher, cipher_under}
 use Rattle.aead.proofs.Ciphers.{encrypted_length, short_is_aes, long_is_aes, under_is_aes}
-use Rattle.octets.proofs.Copies.{copied_fits, copied_fills}
+use Rattle.octets.proofs.Copies.{copied_fits}
+use Rattle.octets.specs.Places.{Puts}
+use Rattle.octets.proofs.Places.{put_wrote}
 use Rattle.siv_parts.specs.declared.keys.Keys.{Keys}
 use Rattle.rfc8452.specs.Keys.{derived_by, pair_by, hash_key, cipher_key}
 use Rattle.siv_parts.specs.Derives.{Derives}
 
--- a number below 256 in four bytes, then a nonce byte by byte
-pub numbered_bytes : (i : ℕ) (nonce : List ℕ) → i < 256 → length nonce ≡ 12 → i ∷ 0 ∷ 0 ∷ 0 ∷ cells 0 12 nonce ≡ bytes_of 4 i ++ nonce
-unfolding bytes_of
-numbered_bytes i nonce h l =
-    let e0 : i ≡ i % 256 = omega arith in
-    let e1 : 0 ≡ i / 256 % 256 = omega arith in
-    let e2 : 0 ≡ i / 256 / 256 % 256 = omega arith in
-    let e3 : 0 ≡ i / 256 / 256 / 256 % 256 = omega arith in
-    λ j. e0 j ∷ e1 j ∷ e2 j ∷ e3 j ∷ (cells_part 0 12 nonce (omega arith) ∙ take_all 12 nonce (omega arith)) j
-
-pub first_halves : (a b : List ℕ) → length a ≡ 16 → length b ≡ 16 → cells 0 8 a ++ cells 0 8 b ≡ take 8 a ++ take 8 b
-first_halves a b la lb = ap₂ (λ (x y : List ℕ). x ++ y) (cells_part 0 8 a (omega arith)) (cells_part 0 8 b (omega arith))
-
--- two halves copied one behind the other
-pub joined_halves : (low high x y : List ℕ) → length low ≡ 16 → length high ≡ 16 → x ≡ copied low (replicate 32 0) → y ≡ copied high (take 16 (drop 16 x))
-    → take 16 x ++ (y ++ drop 16 (drop 16 x)) ≡ low ++ high
-joined_halves low high x y ll lh ex ey =
-    let z : List ℕ = replicate 16 0 in
-    let whole : x ≡ low ++ z = ex ∙ copied_fits low (replicate 32 0) (omega arith) ∙ ap (λ n. low ++ drop n (replicate {A = ℕ} 32 0)) ll in
-    let front : take 16 x ≡ low = ap (take 16) whole ∙ take_at low z 16 ll in
-    let back : drop 16 x ≡ z = ap (drop 16) whole ∙ drop_at low z 16 ll in
-    let second : y ≡ high = ey ∙ ap (λ (l : List ℕ). copied high (take 16 l)) back ∙ copied_fills high z lh in
-    ap₂ (λ (l r : List ℕ). l ++ r) front (ap₂ (λ (l r : List ℕ). l ++ r) second (ap (drop 16) back) ∙ append-nil high)
+-- one string copied to the front of another's place and one put behind it, which fill it
+pub joined_parts : (low high d x y : List ℕ) {next : ℕ} → length low + length high ≡ length d → x ≡ copied low d → Puts x (length low) high y next → y ≡ low ++ high
+joined_parts low high d x y fits ex put =
+    let n : ℕ = length low in
+    let whole : x ≡ low ++ drop n d = ex ∙ copied_fits low d (omega arith) in
+    let size : length x ≡ length d = ap length whole ∙ length-append low (drop n d) ∙ omega (arith, length-drop n d) in
+    let front : take n x ≡ low = ap (take n) whole ∙ take_at low (drop n d) n refl in
+    (put_wrote (omega arith) put).out_is
+    ∙ ap₂ (λ (l r : List ℕ). l ++ (high ++ r)) front (drop_of_length-le x {i = n + length high} (omega arith)) ∙ ap (λ (l : List ℕ). low ++ l) (append-nil high)
 
 -- a pair of a cipher that gives 16 bytes has 16
 pair_length : (f : List ℕ → List ℕ) → ((b : List ℕ) → length (f b) ≡ 16) → (nonce : List ℕ) (i j : ℕ) → length (pair_by f nonce i j) ≡ 16

@@ -1,5 +1,4 @@
 -- Laws that the functions' proofs share, and that no contract leaves a choice.
-pub mod Counting
 pub mod Deriving
 pub mod Hashing
 pub mod Unique

@@ -20,5 +20,5 @@ returns c =
     let a = start.args in
     let copied = c.copy in
     let m = c.mask in
-    changed_front (mask_under (encrypted a.cipher) a.tag) a.text.now a.out.now copied.new.dst m.new.text start.requires copied.ensures
-    (m.ensures ∙ ap (λ b. masked next_counter (encrypted a.cipher) b (take (length a.text.now) copied.new.dst)) c.counter_block.ensures)
+    changed_front (mask_under (encrypted a.keys.now.cipher) a.tag) a.text.now a.out.now copied.new.dst m.new.text start.requires copied.ensures
+    (m.ensures ∙ ap (λ b. masked next_counter (encrypted a.keys.now.cipher) b (take (length a.text.now) copied.new.dst)) c.counter_block.ensures)

@@ -17,7 +17,7 @@ unfolding sealed_by
 returns c =
     let start = c in
     let a = start.args in
-    let f = encrypted a.keys.cipher in
+    let f = encrypted a.keys.now.cipher in
     let text = a.text.now in
     let out = a.out.now in
     let made = c.text_tag-t in

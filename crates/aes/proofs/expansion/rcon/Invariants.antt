@@ -5,7 +5,4 @@ use Rattle.fips197.specs.KeyExpansion.{power}
 use Rattle.aes.proofs.expansion.rcon.Given as goal
 
 abbrev pub invariant-loop-k : goal.invariant-loop-k
-invariant-loop-k l = (1 ≤ l.k) × (l.k - 1 ≤ l.j - 1) × (l.x < 256) × (l.x ≡ power (l.k - 1))
-
-abbrev pub decreases-loop-k : goal.decreases-loop-k
-decreases-loop-k l = l.j - l.k
+invariant-loop-k l = (l._k - 1 ≤ l.j - 1) × (l.x < 256) × (l.x ≡ power (l._k - 1))

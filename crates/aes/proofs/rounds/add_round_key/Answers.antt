@@ -1,5 +1,4 @@
 -- `aes::rounds::add_round_key` meets its contract. Assumes nothing.
-use mathlib.Core.Path.{refl}
 use Rattle.octets.specs.Xor.{◌⊕◌}
 use Rattle.aes.proofs.Words.{key_law}
 use Rattle.aes.proofs.rounds.add_round_key.Goals as goal
@@ -8,4 +7,4 @@ pub returns : goal.returns
 unfolding ◌⊕◌
 returns c =
     let a = c.args in
-    key_law a.s c.load-k.result _ a.w.now a.r c.load-k.ensures refl refl refl refl
+    key_law a.s c.load-k.result a.w.now a.r c.load-k.ensures

@@ -1,12 +1,16 @@
 -- `siv_parts::counter::next_counter` meets its contract. Assumes nothing.
-use Rattle.std.proofs.Common.{◌+◌, ◌%◌, ◌^◌, ap, ◌∙◌, rules}
-use Rattle.octets.specs.Numbers.{bytes_of}
-use Rattle.siv_parts.proofs.Counting.{counted}
+use Rattle.std.proofs.Common.{◌≡◌, ℕ, ◌+◌, ◌%◌, ◌^◌, List, ◌++◌, length, drop, refl, ap, ◌∙◌, arith, rules}
+use Rattle.std.specs.Int.{w32}
+use Rattle.octets.specs.Numbers.{number, bytes_of}
+use Rattle.octets.proofs.Numbers.{cells, cells_part}
+use Rattle.octets.proofs.Endian.{from_le, to_le}
+use Rattle.rfc8452.specs.Counter.{next_counter}
 use Rattle.siv_parts.proofs.counter.next_counter.Goals as goal
 
 pub returns : goal.returns
+unfolding next_counter
 returns c =
-    let sum = c in
-    let word = sum in
-    counted word.args.b _ (search rules)
-    (c.le32_bytes-count.ensures ∙ ap (bytes_of 4) (sum.wrapping_add_u32.ensures.value ∙ ap (λ n. (n + 1) % 2 ^ 32) word.le32.ensures.value))
+    let b = c.args.b in
+    let sixteen : length b ≡ 16 = search rules in
+    let count = c.from_le_bytes-count.ensures ∙ from_le w32 (cells 0 4 b) refl ∙ ap number (cells_part 0 4 b (omega arith)) in
+    ap (λ (l : List ℕ). l ++ drop 4 b) (c.copy_from_slice.ensures.after ∙ c.to_le_bytes.ensures ∙ to_le w32 _ ∙ ap (λ n. bytes_of 4 ((n + 1) % 2 ^ 32)) count)

@@ -1,5 +1,5 @@
 -- `siv_parts::tag::length_block` meets its contract. Assumes nothing.
-use Rattle.std.proofs.Common.{◌*◌, ◌∙◌, rules}
+use Rattle.std.proofs.Common.{◌*◌, ◌∙◌}
 use Rattle.siv_parts.proofs.Hashing.{two_words}
 use Rattle.siv_parts.proofs.tag.length_block.Goals as goal
 

@@ -1,7 +1,8 @@
 -- `aead::cipher::Cipher::long_key` meets its contract. Assumes nothing.
-use mathlib.Core.Bool.{true}
-use lib.ListN.{replicate}
+use lib.Dec.{lit≤}
+use native.Mathlib.Bridge.{le_prop}
+use Rattle.aead.specs.declared.cipher.Cipher.TheVariants.{Long}
 use Rattle.aead.proofs.cipher.Cipher.long_key.Goals as goal
 
 pub returns : goal.returns
-returns c = λ i. record { long = true; schedule128 = record { bytes = replicate 176 0 }; schedule256 = record { bytes = c.expand256.ensures i } }
+returns c = λ i. Long (record { bytes = c.from.ensures i; has_a_round = le_prop c.from.result.has_a_round (lit≤ tt) i })

@@ -1,7 +1,8 @@
 -- `aead::cipher::Cipher::short_key` meets its contract. Assumes nothing.
-use mathlib.Core.Bool.{false}
-use lib.ListN.{replicate}
+use lib.Dec.{lit≤}
+use native.Mathlib.Bridge.{le_prop}
+use Rattle.aead.specs.declared.cipher.Cipher.TheVariants.{Short}
 use Rattle.aead.proofs.cipher.Cipher.short_key.Goals as goal
 
 pub returns : goal.returns
-returns c = λ i. record { long = false; schedule128 = record { bytes = c.expand128.ensures i }; schedule256 = record { bytes = replicate 240 0 } }
+returns c = λ i. Short (record { bytes = c.from.ensures i; has_a_round = le_prop c.from.result.has_a_round (lit≤ tt) i })

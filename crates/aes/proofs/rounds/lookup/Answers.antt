@@ -1,8 +1,0 @@
--- `aes::rounds::lookup` meets its contract. Assumes nothing.
-use Prim.Native.Nat.{◌%◌}
-use borrow.Author.Rules.{rules}
-use Rattle.aes_tables.proofs.Entry.{word_at}
-use Rattle.aes.proofs.rounds.lookup.Goals as goal
-
-pub returns : goal.returns
-returns c = word_at c.args.words.now c.requires (c.args.x % 256) (search rules)
