@@ -1,4 +1,5 @@
 -- The four folds of mul32 on words of 32 bits: each takes the lowest word out and adds to the words three and four above it. Assumes nothing.
+use Rattle.std.proofs.Common.{List, slice_index}
 use mathlib.Core.Path.{◌≡◌, refl, sym, ap, ap₂, ◌∙◌}
 use Prim.Native.Nat.{ℕ, ◌+◌, ◌*◌, ◌/◌, ◌%◌, ◌^◌, ◌<◌}
 use native.Mathlib.Nat.{mod-lt, zero-add, add-zero}
@@ -13,9 +14,7 @@ use Rattle.gf2.proofs.Product.{◌⊗◌, ⊗-comm, ⊗-deg, shl_⊗}
 use Rattle.gf2.proofs.Fold.{x_inv, fold, folds32}
 use Rattle.word.specs.declared.Words.{Words}
 use Rattle.word.specs.Words.{words_of}
-use Rattle.limbs.specs.declared.mul32.Product32.{Product32}
-use Rattle.limbs.specs.declared.mul32.Words32.{Words32}
-use Rattle.limbs.specs.Limbs32.{tail32, words32_of, value_of32}
+use Rattle.limbs.specs.Limbs32.{tail32, words32_of}
 use Rattle.limbs.proofs.Pair.{words_of_lem}
 
 x_inv32 : x_inv 32 ≡ tail32 * 2 ^ 64
@@ -57,32 +56,24 @@ fold_word R z₄ z₃ z₂ z₁ z₀ h₄ h₃ h₂ h₁ h₀ =
     ∙ ap₂ (λ x y. x * 2 ^ 64 + y) (⊕-comm T U ∙ above) (zero_⊕ s)
     ∙ sym (pair (2 ^ 32) ((R * 2 ^ 32 + (z₄ ⊕ hi z₀)) * 2 ^ 32 + (z₃ ⊕ lo z₀)) z₂ z₁)
 
-pub record SizedProduct32 (p : Product32) : Type 0 where
-  pub v0 : p.v0 < 2 ^ 32
-  pub v1 : p.v1 < 2 ^ 32
-  pub v2 : p.v2 < 2 ^ 32
-  pub v3 : p.v3 < 2 ^ 32
-  pub v4 : p.v4 < 2 ^ 32
-  pub v5 : p.v5 < 2 ^ 32
-  pub v6 : p.v6 < 2 ^ 32
-  pub v7 : p.v7 < 2 ^ 32
-
-module _ (p : Product32) (s : SizedProduct32 p) where
+-- the words of an unreduced product, the low one first
+module _ (v₀ v₁ v₂ v₃ v₄ v₅ v₆ v₇ : ℕ) (h₀ : v₀ < 2 ^ 32) (h₁ : v₁ < 2 ^ 32) (h₂ : v₂ < 2 ^ 32) (h₃ : v₃ < 2 ^ 32)
+    (h₄ : v₄ < 2 ^ 32) (h₅ : v₅ < 2 ^ 32) (h₆ : v₆ < 2 ^ 32) (h₇ : v₇ < 2 ^ 32) where
   -- the words as the program has them in the end
   abbrev w₃ : ℕ
-  w₃ = p.v3 ⊕ lo p.v0
+  w₃ = v₃ ⊕ lo v₀
 
   abbrev w₄ : ℕ
-  w₄ = p.v4 ⊕ hi p.v0 ⊕ lo p.v1
+  w₄ = v₄ ⊕ hi v₀ ⊕ lo v₁
 
   abbrev w₅ : ℕ
-  w₅ = p.v5 ⊕ hi p.v1 ⊕ lo p.v2
+  w₅ = v₅ ⊕ hi v₁ ⊕ lo v₂
 
   abbrev w₆ : ℕ
-  w₆ = p.v6 ⊕ hi p.v2 ⊕ lo w₃
+  w₆ = v₆ ⊕ hi v₂ ⊕ lo w₃
 
   abbrev w₇ : ℕ
-  w₇ = p.v7 ⊕ hi w₃
+  w₇ = v₇ ⊕ hi w₃
 
   -- what a fold adds to a word keeps it a word
   with_hi : (v u : ℕ) → v < 2 ^ 32 → u < 2 ^ 32 → v ⊕ hi u < 2 ^ 32
@@ -92,45 +83,46 @@ module _ (p : Product32) (s : SizedProduct32 p) where
   with_lo v u hv = ⊕-lt 32 v (lo u) hv (lo_lt u)
 
   w₃_lt : w₃ < 2 ^ 32
-  w₃_lt = with_lo p.v3 p.v0 s.v3
+  w₃_lt = with_lo v₃ v₀ h₃
 
   w₄_lt : w₄ < 2 ^ 32
-  w₄_lt = with_lo (p.v4 ⊕ hi p.v0) p.v1 (with_hi p.v4 p.v0 s.v4 s.v0)
+  w₄_lt = with_lo (v₄ ⊕ hi v₀) v₁ (with_hi v₄ v₀ h₄ h₀)
 
   w₅_lt : w₅ < 2 ^ 32
-  w₅_lt = with_lo (p.v5 ⊕ hi p.v1) p.v2 (with_hi p.v5 p.v1 s.v5 s.v1)
+  w₅_lt = with_lo (v₅ ⊕ hi v₁) v₂ (with_hi v₅ v₁ h₅ h₁)
 
   abbrev N : ℕ
-  N = value_of32 p
+  N = ((((((v₇ * 2 ^ 32 + v₆) * 2 ^ 32 + v₅) * 2 ^ 32 + v₄) * 2 ^ 32 + v₃) * 2 ^ 32 + v₂) * 2 ^ 32 + v₁) * 2 ^ 32 + v₀
 
-  first : fold 32 N ≡ (((((p.v7 * 2 ^ 32 + p.v6) * 2 ^ 32 + p.v5) * 2 ^ 32 + (p.v4 ⊕ hi p.v0)) * 2 ^ 32 + w₃) * 2 ^ 32 + p.v2) * 2 ^ 32 + p.v1
-  first = fold_word ((p.v7 * 2 ^ 32 + p.v6) * 2 ^ 32 + p.v5) p.v4 p.v3 p.v2 p.v1 p.v0 s.v4 s.v3 s.v2 s.v1 s.v0
+  first : fold 32 N ≡ (((((v₇ * 2 ^ 32 + v₆) * 2 ^ 32 + v₅) * 2 ^ 32 + (v₄ ⊕ hi v₀)) * 2 ^ 32 + w₃) * 2 ^ 32 + v₂) * 2 ^ 32 + v₁
+  first = fold_word ((v₇ * 2 ^ 32 + v₆) * 2 ^ 32 + v₅) v₄ v₃ v₂ v₁ v₀ h₄ h₃ h₂ h₁ h₀
 
-  second : fold 32 (fold 32 N) ≡ ((((p.v7 * 2 ^ 32 + p.v6) * 2 ^ 32 + (p.v5 ⊕ hi p.v1)) * 2 ^ 32 + w₄) * 2 ^ 32 + w₃) * 2 ^ 32 + p.v2
-  second = ap (fold 32) first ∙ fold_word (p.v7 * 2 ^ 32 + p.v6) p.v5 (p.v4 ⊕ hi p.v0) w₃ p.v2 p.v1 s.v5 (with_hi p.v4 p.v0 s.v4 s.v0) w₃_lt s.v2 s.v1
+  second : fold 32 (fold 32 N) ≡ ((((v₇ * 2 ^ 32 + v₆) * 2 ^ 32 + (v₅ ⊕ hi v₁)) * 2 ^ 32 + w₄) * 2 ^ 32 + w₃) * 2 ^ 32 + v₂
+  second = ap (fold 32) first ∙ fold_word (v₇ * 2 ^ 32 + v₆) v₅ (v₄ ⊕ hi v₀) w₃ v₂ v₁ h₅ (with_hi v₄ v₀ h₄ h₀) w₃_lt h₂ h₁
 
-  third : fold 32 (fold 32 (fold 32 N)) ≡ (((p.v7 * 2 ^ 32 + (p.v6 ⊕ hi p.v2)) * 2 ^ 32 + w₅) * 2 ^ 32 + w₄) * 2 ^ 32 + w₃
-  third = ap (fold 32) second ∙ fold_word p.v7 p.v6 (p.v5 ⊕ hi p.v1) w₄ w₃ p.v2 s.v6 (with_hi p.v5 p.v1 s.v5 s.v1) w₄_lt w₃_lt s.v2
+  third : fold 32 (fold 32 (fold 32 N)) ≡ (((v₇ * 2 ^ 32 + (v₆ ⊕ hi v₂)) * 2 ^ 32 + w₅) * 2 ^ 32 + w₄) * 2 ^ 32 + w₃
+  third = ap (fold 32) second ∙ fold_word v₇ v₆ (v₅ ⊕ hi v₁) w₄ w₃ v₂ h₆ (with_hi v₅ v₁ h₅ h₁) w₄_lt w₃_lt h₂
 
   fourth : fold 32 (fold 32 (fold 32 (fold 32 N))) ≡ ((w₇ * 2 ^ 32 + w₆) * 2 ^ 32 + w₅) * 2 ^ 32 + w₄
   fourth =
-      ap (fold 32) (third ∙ ap (λ x. (((x * 2 ^ 32 + (p.v6 ⊕ hi p.v2)) * 2 ^ 32 + w₅) * 2 ^ 32 + w₄) * 2 ^ 32 + w₃) (sym (zero-add p.v7)))
-      ∙ fold_word 0 p.v7 (p.v6 ⊕ hi p.v2) w₅ w₄ w₃ s.v7 (with_hi p.v6 p.v2 s.v6 s.v2) w₅_lt w₄_lt w₃_lt
+      ap (fold 32) (third ∙ ap (λ x. (((x * 2 ^ 32 + (v₆ ⊕ hi v₂)) * 2 ^ 32 + w₅) * 2 ^ 32 + w₄) * 2 ^ 32 + w₃) (sym (zero-add v₇)))
+      ∙ fold_word 0 v₇ (v₆ ⊕ hi v₂) w₅ w₄ w₃ h₇ (with_hi v₆ v₂ h₆ h₂) w₅_lt w₄_lt w₃_lt
       ∙ ap (λ x. ((x * 2 ^ 32 + w₆) * 2 ^ 32 + w₅) * 2 ^ 32 + w₄) (zero-add w₇)
 
   reduced : (w₇ * 2 ^ 32 + w₆) * 2 ^ 64 + (w₅ * 2 ^ 32 + w₄) ≡ reduce (N ⊗ x_inv128)
   reduced =
       sym (pair (2 ^ 32) (w₇ * 2 ^ 32 + w₆) w₅ w₄) ∙ sym fourth
-      ∙ folds32 N (digits_lt (digits_lt (digits_lt (digits_lt (digits_lt (digits_lt (digits_lt s.v7 s.v6) s.v5) s.v4) s.v3) s.v2) s.v1) s.v0) ∙ ap reduce (⊗-comm x_inv128 N)
+      ∙ folds32 N (digits_lt (digits_lt (digits_lt (digits_lt (digits_lt (digits_lt (digits_lt h₇ h₆) h₅) h₄) h₃) h₂) h₁) h₀) ∙ ap reduce (⊗-comm x_inv128 N)
 
--- what the program makes of the words a, b, c and d that the four folds add
-pub folded : (p : Product32) → SizedProduct32 p → {a b c d : Words32} {l h : ℕ}
-    → a ≡ words32_of (tail32 ⊗ p.v0) → b ≡ words32_of (tail32 ⊗ p.v1) → c ≡ words32_of (tail32 ⊗ p.v2) → d ≡ words32_of (tail32 ⊗ (p.v3 ⊕ a.lo))
-    → l ≡ (p.v5 ⊕ b.hi ⊕ c.lo) * 2 ^ 32 + (p.v4 ⊕ a.hi ⊕ b.lo) → h ≡ (p.v7 ⊕ d.hi) * 2 ^ 32 + (p.v6 ⊕ c.hi ⊕ d.lo)
-    → ◌≡◌ {A = Words} (record { lo = l; hi = h }) (words_of (reduce (value_of32 p ⊗ x_inv128)))
-folded p s ea eb ec ed el eh =
-    let d_words = ed ∙ ap (λ w. words32_of (tail32 ⊗ (p.v3 ⊕ w.lo))) ea in
-    let lows = el ∙ (λ i. (p.v5 ⊕ (eb i).hi ⊕ (ec i).lo) * 2 ^ 32 + (p.v4 ⊕ (ea i).hi ⊕ (eb i).lo)) in
-    let highs = eh ∙ (λ i. (p.v7 ⊕ (d_words i).hi) * 2 ^ 32 + (p.v6 ⊕ (ec i).hi ⊕ (d_words i).lo)) in
-    (λ i. record { lo = lows i; hi = highs i })
-    ∙ words_of_lem (reduce (value_of32 p ⊗ x_inv128)) (digits_lt (w₅_lt p s) (w₄_lt p s)) (reduced p s)
+  -- what the program makes of the words a, b, c and d that the four folds add
+  pub folded : {a b c d : List ℕ} {l h : ℕ}
+      → a ≡ words32_of (tail32 ⊗ v₀) → b ≡ words32_of (tail32 ⊗ v₁) → c ≡ words32_of (tail32 ⊗ v₂) → d ≡ words32_of (tail32 ⊗ (v₃ ⊕ slice_index a 0))
+      → l ≡ (v₅ ⊕ slice_index b 1 ⊕ slice_index c 0) * 2 ^ 32 + (v₄ ⊕ slice_index a 1 ⊕ slice_index b 0)
+      → h ≡ (v₇ ⊕ slice_index d 1) * 2 ^ 32 + (v₆ ⊕ slice_index c 1 ⊕ slice_index d 0)
+      → ◌≡◌ {A = Words} (record { lo = l; hi = h }) (words_of (reduce (N ⊗ x_inv128)))
+  folded ea eb ec ed el eh =
+      let d_words = ed ∙ ap (λ w. words32_of (tail32 ⊗ (v₃ ⊕ slice_index w 0))) ea in
+      let lows = el ∙ (λ i. (v₅ ⊕ slice_index (eb i) 1 ⊕ slice_index (ec i) 0) * 2 ^ 32 + (v₄ ⊕ slice_index (ea i) 1 ⊕ slice_index (eb i) 0)) in
+      let highs = eh ∙ (λ i. (v₇ ⊕ slice_index (d_words i) 1) * 2 ^ 32 + (v₆ ⊕ slice_index (ec i) 1 ⊕ slice_index (d_words i) 0)) in
+      (λ i. record { lo = lows i; hi = highs i })
+      ∙ words_of_lem (reduce (N ⊗ x_inv128)) (digits_lt w₅_lt w₄_lt) reduced

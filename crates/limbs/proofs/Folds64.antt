@@ -12,8 +12,6 @@ use Rattle.gf2.proofs.Product.{◌⊗◌, ⊗-comm, ⊗-deg}
 use Rattle.gf2.proofs.Fold.{fold, x_inv_64, folds64}
 use Rattle.word.specs.declared.Words.{Words}
 use Rattle.word.specs.Words.{words_of}
-use Rattle.limbs.specs.declared.mul64.Product.{Product}
-use Rattle.limbs.specs.Limbs64.{value_of}
 use Rattle.limbs.proofs.Pair.{words_of_lem}
 
 -- one fold: the lowest word goes out, and its product by x^-64 comes in above
@@ -30,43 +28,38 @@ high_lt : (v : ℕ) → v < 2 ^ 64 → (x_inv64 ⊗ v) / 2 ^ 64 < 2 ^ 64
 unfolding x_inv64
 high_lt v h = shr_lt 64 64 (⊗-deg 64 64 x_inv64 v (lit< tt) h)
 
-pub record SizedProduct (p : Product) : Type 0 where
-  pub v0 : p.v0 < 2 ^ 64
-  pub v1 : p.v1 < 2 ^ 64
-  pub v2 : p.v2 < 2 ^ 64
-  pub v3 : p.v3 < 2 ^ 64
-
-module _ (p : Product) (s : SizedProduct p) where
+-- the words of an unreduced product, the low one first
+module _ (v₀ v₁ v₂ v₃ : ℕ) (h₀ : v₀ < 2 ^ 64) (h₁ : v₁ < 2 ^ 64) (h₂ : v₂ < 2 ^ 64) (h₃ : v₃ < 2 ^ 64) where
   -- the words after the first fold
   abbrev w₁ : ℕ
-  w₁ = p.v1 ⊕ (x_inv64 ⊗ p.v0) % 2 ^ 64
+  w₁ = v₁ ⊕ (x_inv64 ⊗ v₀) % 2 ^ 64
 
   abbrev w₂ : ℕ
-  w₂ = p.v2 ⊕ (x_inv64 ⊗ p.v0) / 2 ^ 64
+  w₂ = v₂ ⊕ (x_inv64 ⊗ v₀) / 2 ^ 64
 
   abbrev N : ℕ
-  N = value_of p
+  N = ((v₃ * 2 ^ 64 + v₂) * 2 ^ 64 + v₁) * 2 ^ 64 + v₀
 
   w₁_lt : w₁ < 2 ^ 64
-  w₁_lt = ⊕-lt 64 p.v1 ((x_inv64 ⊗ p.v0) % 2 ^ 64) s.v1 (mod-lt (x_inv64 ⊗ p.v0) (pow_pos 64))
+  w₁_lt = ⊕-lt 64 v₁ ((x_inv64 ⊗ v₀) % 2 ^ 64) h₁ (mod-lt (x_inv64 ⊗ v₀) (pow_pos 64))
 
   w₂_lt : w₂ < 2 ^ 64
-  w₂_lt = ⊕-lt 64 p.v2 ((x_inv64 ⊗ p.v0) / 2 ^ 64) s.v2 (high_lt p.v0 s.v0)
+  w₂_lt = ⊕-lt 64 v₂ ((x_inv64 ⊗ v₀) / 2 ^ 64) h₂ (high_lt v₀ h₀)
 
   reduced_lo : w₂ ⊕ (x_inv64 ⊗ w₁) % 2 ^ 64 < 2 ^ 64
   reduced_lo = ⊕-lt 64 w₂ ((x_inv64 ⊗ w₁) % 2 ^ 64) w₂_lt (mod-lt (x_inv64 ⊗ w₁) (pow_pos 64))
 
-  reduced : (p.v3 ⊕ (x_inv64 ⊗ w₁) / 2 ^ 64) * 2 ^ 64 + (w₂ ⊕ (x_inv64 ⊗ w₁) % 2 ^ 64) ≡ reduce (N ⊗ x_inv128)
+  reduced : (v₃ ⊕ (x_inv64 ⊗ w₁) / 2 ^ 64) * 2 ^ 64 + (w₂ ⊕ (x_inv64 ⊗ w₁) % 2 ^ 64) ≡ reduce (N ⊗ x_inv128)
   reduced =
-      sym (fold_word p.v3 w₂ w₁ w₂_lt w₁_lt)
-      ∙ ap (λ x. fold 64 (x * 2 ^ 64 + w₁)) (sym (⊕-low 64 p.v3 p.v2 ((x_inv64 ⊗ p.v0) / 2 ^ 64) s.v2 (high_lt p.v0 s.v0)))
-      ∙ ap (fold 64) (sym (fold_word (p.v3 * 2 ^ 64 + p.v2) p.v1 p.v0 s.v1 s.v0))
-      ∙ folds64 N (digits_lt (digits_lt (digits_lt s.v3 s.v2) s.v1) s.v0) ∙ ap reduce (⊗-comm x_inv128 N)
+      sym (fold_word v₃ w₂ w₁ w₂_lt w₁_lt)
+      ∙ ap (λ x. fold 64 (x * 2 ^ 64 + w₁)) (sym (⊕-low 64 v₃ v₂ ((x_inv64 ⊗ v₀) / 2 ^ 64) h₂ (high_lt v₀ h₀)))
+      ∙ ap (fold 64) (sym (fold_word (v₃ * 2 ^ 64 + v₂) v₁ v₀ h₁ h₀))
+      ∙ folds64 N (digits_lt (digits_lt (digits_lt h₃ h₂) h₁) h₀) ∙ ap reduce (⊗-comm x_inv128 N)
 
--- what the program makes of the words a and b that the two folds add
-pub folded : (p : Product) → SizedProduct p → {a b : Words} → a ≡ words_of (x_inv64 ⊗ p.v0) → b ≡ words_of (x_inv64 ⊗ (p.v1 ⊕ a.lo))
-    → ◌≡◌ {A = Words} (record { lo = p.v2 ⊕ a.hi ⊕ b.lo; hi = p.v3 ⊕ b.hi }) (words_of (reduce (value_of p ⊗ x_inv128)))
-folded p s ea eb =
-    let b-words = eb ∙ ap (λ w. words_of (x_inv64 ⊗ (p.v1 ⊕ w.lo))) ea in
-    (λ i. record { lo = p.v2 ⊕ (ea i).hi ⊕ (b-words i).lo; hi = p.v3 ⊕ (b-words i).hi })
-    ∙ words_of_lem (reduce (value_of p ⊗ x_inv128)) (reduced_lo p s) (reduced p s)
+  -- what the program makes of the words a and b that the two folds add
+  pub folded : {a b : Words} → a ≡ words_of (x_inv64 ⊗ v₀) → b ≡ words_of (x_inv64 ⊗ (v₁ ⊕ a.lo))
+      → ◌≡◌ {A = Words} (record { lo = v₂ ⊕ a.hi ⊕ b.lo; hi = v₃ ⊕ b.hi }) (words_of (reduce (N ⊗ x_inv128)))
+  folded ea eb =
+      let b-words = eb ∙ ap (λ w. words_of (x_inv64 ⊗ (v₁ ⊕ w.lo))) ea in
+      (λ i. record { lo = v₂ ⊕ (ea i).hi ⊕ (b-words i).lo; hi = v₃ ⊕ (b-words i).hi })
+      ∙ words_of_lem (reduce (N ⊗ x_inv128)) reduced_lo reduced

@@ -3,6 +3,7 @@ use mathlib.Core.Path.{◌≡◌, sym, ap, ◌∙◌}
 use mathlib.Core.List.{List, [], ◌∷◌}
 use Prim.Native.Nat.{ℕ, ◌+◌, ◌*◌, ◌/◌, ◌%◌, ◌^◌, ◌<◌}
 use native.Mathlib.Nat.{mod-eq_of_lt}
+use Rattle.std.proofs.Common.{map, slice_index}
 use lib.ListN.{get_or}
 use lib.Pow.{pow_pos, shr_lt}
 use Rattle.octets.specs.Xor.{◌⊕◌}
@@ -14,23 +15,21 @@ use Rattle.gf2.proofs.Reverse.{upper, column_⊗, column_⊕}
 use Rattle.gf2.proofs.Columns.{columns, carried, words, Double, row, word_row, rejoin}
 use Rattle.gf2.proofs.Limbs.{by_2_limbs}
 use Rattle.gf2.proofs.Karatsuba.{karatsuba_words}
-use Rattle.limbs.specs.declared.mul64.Product.{Product}
-use Rattle.limbs.specs.declared.mul64.Limbs.{Limbs}
-use Rattle.limbs.specs.Limbs64.{value_of, product_of, limbs_of, reversed_limbs}
+use Rattle.limbs.specs.Limbs64.{value_of, product_of, columns_of}
 
 -- what the program makes of its three products
 pub limbs_words : (a₀ a₁ b₀ b₁ : ℕ) {z₀ z₁ z₂ : ℕ} → z₀ ≡ a₀ ⊗ b₀ % 2 ^ 64 → z₁ ≡ a₁ ⊗ b₁ % 2 ^ 64 → z₂ ≡ (a₀ ⊕ a₁) ⊗ (b₀ ⊕ b₁) % 2 ^ 64
-    → ◌≡◌ {A = Limbs} (record { low = z₀; high = z₁; cross = z₂ ⊕ z₀ ⊕ z₁ }) (limbs_of a₀ a₁ b₀ b₁)
+    → z₀ ∷ (z₂ ⊕ z₀ ⊕ z₁) ∷ z₁ ∷ [] ≡ columns_of a₀ a₁ b₀ b₁
 limbs_words a₀ a₁ b₀ b₁ e₀ e₁ e₂ =
     let across = (λ i. e₂ i ⊕ e₀ i ⊕ e₁ i) ∙ karatsuba_words 64 a₀ a₁ b₀ b₁ in
-    λ i. record { low = e₀ i; high = e₁ i; cross = across i }
+    λ i. e₀ i ∷ across i ∷ e₁ i ∷ []
 
 -- what the program makes of the products' low words z and of the reversed factors', reversed
-abbrev pub assembled : Limbs → Limbs → Product
-assembled z u = record { v0 = z.low; v1 = u.low / 2 ⊕ z.cross; v2 = u.cross / 2 ⊕ z.high; v3 = u.high / 2 }
+abbrev pub assembled : (z u : List ℕ) → List ℕ
+assembled z u = slice_index z 0 ∷ (slice_index u 0 / 2 ⊕ slice_index z 1) ∷ (slice_index u 1 / 2 ⊕ slice_index z 2) ∷ slice_index u 2 / 2 ∷ []
 
 pub product_words : (a₀ a₁ b₀ b₁ : ℕ) → a₀ < 2 ^ 64 → a₁ < 2 ^ 64 → b₀ < 2 ^ 64 → b₁ < 2 ^ 64
-    → assembled (limbs_of a₀ a₁ b₀ b₁) (reversed_limbs (limbs_of (rev 64 a₀) (rev 64 a₁) (rev 64 b₀) (rev 64 b₁)))
+    → assembled (columns_of a₀ a₁ b₀ b₁) (map (rev 64) (columns_of (rev 64 a₀) (rev 64 a₁) (rev 64 b₀) (rev 64 b₁)))
     ≡ product_of ((a₁ * 2 ^ 64 + a₀) ⊗ (b₁ * 2 ^ 64 + b₀))
 unfolding upper
 product_words a₀ a₁ b₀ b₁ ha₀ ha₁ hb₀ hb₁ =
@@ -45,12 +44,11 @@ product_words a₀ a₁ b₀ b₁ ha₀ ha₁ hb₀ hb₁ =
     let small : Double 64 all = (A-column.small, (K-column.small, (B-column.small, tt))) in
     let whole : N ≡ words 64 0 all = by_2_limbs 64 a₀ a₁ b₀ b₁ ha₀ hb₀ ∙ sym (zero_⊕ (columns 64 all)) ∙ carried 64 0 all (pow_pos 64) small in
     let at : (i : ℕ) → get_or (row 64 0 all) i 0 ≡ word_at 64 i N = λ i. sym (word_row 64 i 0 all (pow_pos 64) small) ∙ ap (word_at 64 i) (sym whole) in
-    λ i. record {
-      v0 = (sym (zero_⊕ (A % 2 ^ 64)) ∙ at 0) i;
-      v1 = (ap (λ x. x ⊕ K % 2 ^ 64) A-column.half ∙ at 1) i;
-      v2 = (ap (λ x. x ⊕ B % 2 ^ 64) K-column.half ∙ at 2) i;
-      v3 = (B-column.half ∙ at 3) i;
-    }
+    let w₀ = sym (zero_⊕ (A % 2 ^ 64)) ∙ at 0 in
+    let w₁ = ap (λ x. x ⊕ K % 2 ^ 64) A-column.half ∙ at 1 in
+    let w₂ = ap (λ x. x ⊕ B % 2 ^ 64) K-column.half ∙ at 2 in
+    let w₃ = B-column.half ∙ at 3 in
+    λ i. w₀ i ∷ w₁ i ∷ w₂ i ∷ w₃ i ∷ []
 
 -- a number of 256 bits is the value of its words
 pub value_product : (n : ℕ) → n < 2 ^ 256 → value_of (product_of n) ≡ n
