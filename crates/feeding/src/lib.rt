@@ -8,14 +8,14 @@ use field::FieldElement;
 pub const POWERS: usize = 4;
 
 // A power of H, and the D value that the R/F formulas take with it.
-#[derive(Clone, Copy)]
+#[derive(Clone, Copy, PartialEq, Eq)]
 pub struct Power {
     pub h: FieldElement,
     pub d: FieldElement,
 }
 
 // The powers of H, the first one first. Its fields can be altered: a check says whether they belong to H.
-#[derive(Clone, Copy)]
+#[derive(Clone, Copy, PartialEq, Eq)]
 pub struct ExpandedKey {
     pub powers: [Power; POWERS],
 }

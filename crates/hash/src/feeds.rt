@@ -7,6 +7,7 @@ ghost use Rattle.feeding.specs.Told.{fed_told};
 use crate::records;
 use answer::Reason;
 use feeding::{Fed, Hash, Route};
+use polyval::rf::Grouping;
 use polyval::route;
 
 // Blocks of which the last may be short, and is filled with zeros: 14 where bytes are pending. An
@@ -15,7 +16,7 @@ pub fn feed_padded(h: Hash, route: Route, s: &[u8]) -> Result<Fed, Reason>
     ensures { fed_told result ≡ padded_of route h s.now }
 {
     records::pending_at_most(0, h)?;
-    let made = route::absorb_in_groups(route, h.key, records::held(h), s);
+    let made = route::absorb(route, Grouping::InGroups, h.key, records::held(h), s);
     Ok(records::holding(h.key, made, &[]))
 }
 
@@ -37,9 +38,9 @@ fn complete(h: Hash, route: Route, s: &[u8]) -> Fed
 {
     let room = 16 - h.count;
     let first = records::kept(h.pending, h.count, &s[..room]);
-    let made = route::absorb_alone(route, h.key, records::held(h), &first);
+    let made = route::absorb(route, Grouping::Alone, h.key, records::held(h), &first);
     let end = s.len() - (s.len() - room) % 16;
-    let more = route::absorb_alone(route, h.key, made, &s[room..end]);
+    let more = route::absorb(route, Grouping::Alone, h.key, made, &s[room..end]);
     records::holding(h.key, more, &s[end..])
 }
 

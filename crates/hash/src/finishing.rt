@@ -6,6 +6,7 @@ ghost use Rattle.feeding.specs.Told.{finish_told};
 use crate::records;
 use answer::Reason;
 use feeding::{Finished, Hash, Route};
+use polyval::rf::Grouping;
 use polyval::route;
 
 // The tag, the pending bytes filled with zeros to a block. The record is as it was.
@@ -14,7 +15,8 @@ pub fn finish(h: Hash, route: Route) -> Result<Finished, Reason>
 {
     records::pending_at_most(15, h)?;
     let count = h.count;
-    let made = route::absorb_alone(route, h.key, records::held(h), &h.pending[..count]);
+    let pending = &h.pending[..count];
+    let made = route::absorb(route, Grouping::Alone, h.key, records::held(h), pending);
     Ok(Finished {
         tag: made.element.to_bytes(),
         multiplies: made.multiplies,

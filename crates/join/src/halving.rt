@@ -24,19 +24,28 @@ pub struct Multiplied {
 }
 
 impl Multiplied {
-    // The one counted dot: multiplies the product held by h, and adds one to the count.
+    // The one counted dot: multiplies the product by h, and adds one to the count.
     fn by(self, h: FieldElement) -> Multiplied
         ensures { result ≡ multiplied self (value h) }
     {
-        let held = self.product;
         Multiplied {
-            product: held.dot(h),
-            dots: std::num::wrapping_add_u64(self.dots, 1),
+            product: self.product.dot(h),
+            dots: self.dots.wrapping_add(1),
         }
     }
 }
 
 impl Halving {
+    // What is counted goes on from the dots that were spent so far.
+    fn counting(self, product: FieldElement) -> Multiplied
+        ensures { result ≡ record { product = product; dots = self.dots } }
+    {
+        Multiplied {
+            product,
+            dots: self.dots,
+        }
+    }
+
     // The lowest digit: where it is 1, its square is multiplied in.
     fn choose(self) -> Halving
         ensures { result ≡ chosen self }
@@ -44,19 +53,11 @@ impl Halving {
         if self.left % 2 != 1 {
             return self;
         }
-        let product = self.product;
-        let square = self.square;
-        let held = Multiplied {
-            product,
-            dots: self.dots,
-        };
-        let made = held.by(square);
-        let next = made.product;
+        let made = self.counting(self.product).by(self.square);
         Halving {
-            product: next,
-            square,
-            left: self.left,
+            product: made.product,
             dots: made.dots,
+            ..self
         }
     }
 
@@ -64,27 +65,15 @@ impl Halving {
     fn halve(self) -> Halving
         ensures { result ≡ halved self }
     {
-        let product = self.product;
-        let square = self.square;
         if self.left <= 1 {
-            return Halving {
-                product,
-                square,
-                left: 0,
-                dots: self.dots,
-            };
+            return Halving { left: 0, ..self };
         }
-        let held = Multiplied {
-            product: square,
-            dots: self.dots,
-        };
-        let made = held.by(square);
-        let next = made.product;
+        let made = self.counting(self.square).by(self.square);
         Halving {
-            product,
-            square: next,
+            square: made.product,
             left: self.left / 2,
             dots: made.dots,
+            ..self
         }
     }
 }
@@ -99,12 +88,9 @@ pub fn times(a: FieldElement, h: FieldElement, n: u64) -> Multiplied
         left: n,
         dots: 0,
     };
+    // A while: the state says when the digits have run out, and no range does.
     while 0 < state.left {
         state = state.choose().halve();
     }
-    let product = state.product;
-    Multiplied {
-        product,
-        dots: state.dots,
-    }
+    state.counting(state.product)
 }

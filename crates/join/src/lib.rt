@@ -17,7 +17,7 @@ pub fn join(first: Hash, second: Hash, n: u64) -> Result<Joined, Reason>
     ensures { join_told result ≡ join_of first second n }
 {
     let h = key::h_of(first.key);
-    if 0 < first.count || 0 < second.count || !key::same(h, key::h_of(second.key)) {
+    if 0 < first.count || 0 < second.count || h != key::h_of(second.key) {
         return Err(Reason::BadRecord);
     }
     let made = halving::times(first.acc, h, n);

@@ -1,13 +1,13 @@
 -- The loops over the powers of a key, turn by turn. Assumes nothing.
-use mathlib.Core.Path.{◌≡◌, sym, ap, ◌∙◌, subst}
-use mathlib.Core.Bool.{Bool, true, false, ◌&&◌}
-use mathlib.Core.List.{List, map}
-use Prim.Native.Nat.{ℕ, suc, ◌+◌, ◌<◌, ◌≤◌}
+use mathlib.Core.Path.{◌≡◌, refl, sym, ap, ◌∙◌, subst}
+use mathlib.Core.Bool.{Bool, ◌&&◌}
+use mathlib.Core.List.{List, [], ◌∷◌, map}
+use Prim.Native.Nat.{ℕ, suc, ◌+◌, ◌<◌}
 use native.Mathlib.Nat.{zero-add}
-use native.Mathlib.Omega.{arith}
 use native.Mathlib.Numerals.{add-one}
-use lib.ListN.{length, get_or, set, drop, length-map, drop_of_length-le}
-use lib.Seq.{paste, paste-suc, drop-cons}
+use lib.ListN.{length, get_or, set, length-map}
+use lib.Seq.{paste, paste-suc}
+use lib.Pointwise.{pointwise}
 use Rattle.gf2.specs.Polyval.{dot}
 use Rattle.field.specs.declared.field_element.FieldElement.{FieldElement}
 use Rattle.field.specs.declared.rf.Counted.{Counted}
@@ -46,21 +46,10 @@ module _ (h d last : FieldElement) (j spent : ℕ) (sized : Sized h) (belongs : 
   next_companion r s er es =
       es ∙ (λ i. counted (companion_of (value_of p (nth_lt (value h) (value h) (suc j) (value_lt h sized)) (ap (λ c. c.element) er) i)) (after 1 (er i).multiplies))
 
--- a turn of the comparison: t says whether the powers at place i are the same
-module _ (ps qs : List Power) (z : Power) (i : ℕ) (hp : i < length ps) (hq : i < length qs) (t : Bool) (here : t ≡ same_power (get_or ps i z) (get_or qs i z))
-    (so_far : same_powers (drop i ps) (drop i qs) ≡ same_powers ps qs) where
-  cut : same_powers (drop i ps) (drop i qs) ≡ t && same_powers (drop (i + 1) ps) (drop (i + 1) qs)
-  unfolding same_powers
-  cut =
-      (λ k. same_powers (drop-cons ps i z hp k) (drop-cons qs i z hq k))
-      ∙ (λ k. sym here k && same_powers (drop (sym (add-one i) k) ps) (drop (sym (add-one i) k) qs))
-
-  pub same_turn : t ≡ true → same_powers (drop (i + 1) ps) (drop (i + 1) qs) ≡ same_powers ps qs
-  same_turn e = sym (cut ∙ ap (λ b. b && same_powers (drop (i + 1) ps) (drop (i + 1) qs)) e) ∙ so_far
-
-  pub same_ends : t ≡ false → false ≡ same_powers ps qs
-  same_ends e = sym (cut ∙ ap (λ b. b && same_powers (drop (i + 1) ps) (drop (i + 1) qs)) e) ∙ so_far
-
-pub same_done : (ps qs : List Power) (n i : ℕ) → length ps ≡ n → length qs ≡ n → n ≤ i → same_powers (drop i ps) (drop i qs) ≡ true
+-- keys are compared power by power
+pub same_pointwise : (f : Power → Power → Bool) → ((p q : Power) → f p q ≡ same_power p q) → (ps qs : List Power) → pointwise f ps qs ≡ same_powers ps qs
 unfolding same_powers
-same_done ps qs n i hp hq l = (λ k. same_powers (drop_of_length-le ps {i = i} (omega arith) k) (drop_of_length-le qs {i = i} (omega arith) k))
+same_pointwise f e [] [] = refl
+same_pointwise f e [] (q ∷ qs) = refl
+same_pointwise f e (p ∷ ps) [] = refl
+same_pointwise f e (p ∷ ps) (q ∷ qs) = λ i. e p q i && same_pointwise f e ps qs i

@@ -13,18 +13,14 @@ use Rattle.polyval.proofs.soft.absorb.Kinds as absorb_kinds
 use Rattle.polyval.proofs.soft.absorb.Reads as absorb_reads
 use Rattle.polyval.proofs.soft.absorb32.Kinds as absorb32_kinds
 use Rattle.polyval.proofs.soft.absorb32.Reads as absorb32_reads
-use Rattle.polyval.proofs.key.same.Kinds as same_kinds
-use Rattle.polyval.proofs.key.same.Reads as same_Reads
 use Rattle.polyval.proofs.key.h_of.Kinds as h_of_kinds
 use Rattle.polyval.proofs.key.h_of.Reads as h_of_reads
 use Rattle.polyval.proofs.key.expand.Kinds as expand_kinds
 use Rattle.polyval.proofs.key.expand.Reads as expand_reads
 use Rattle.polyval.proofs.key.check.Kinds as check_kinds
 use Rattle.polyval.proofs.key.check.Reads as check_reads
-use Rattle.polyval.proofs.route.absorb_in_groups.Kinds as absorb_in_groups_kinds
-use Rattle.polyval.proofs.route.absorb_in_groups.Reads as absorb_in_groups_reads
-use Rattle.polyval.proofs.route.absorb_alone.Kinds as absorb_alone_kinds
-use Rattle.polyval.proofs.route.absorb_alone.Reads as absorb_alone_reads
+use Rattle.polyval.proofs.route.absorb.Kinds as route_absorb_kinds
+use Rattle.polyval.proofs.route.absorb.Reads as route_absorb_reads
 
 pub pasted_unique : Unique 1 pasted_kinds.ps pasted_kinds.r pasted_reads.Post
 pasted_unique κs a x y e f p q = p ∙ sym q
@@ -44,9 +40,6 @@ absorb_unique κs a x y e f p q = p ∙ sym q
 pub absorb32_unique : Unique 1 absorb32_kinds.ps absorb32_kinds.r absorb32_reads.Post
 absorb32_unique κs a x y e f p q = p ∙ sym q
 
-pub same_unique : Unique 0 same_kinds.ps same_kinds.r same_Reads.Post
-same_unique κs a x y e f p q = p ∙ sym q
-
 pub h_of_unique : Unique 0 h_of_kinds.ps h_of_kinds.r h_of_reads.Post
 h_of_unique κs a x y e f p q = p ∙ sym q
 
@@ -56,8 +49,5 @@ expand_unique κs a x y e f p q = p ∙ sym q
 pub check_unique : Unique 0 check_kinds.ps check_kinds.r check_reads.Post
 check_unique κs a x y e f p q = p ∙ sym q
 
-pub absorb_in_groups_unique : Unique 1 absorb_in_groups_kinds.ps absorb_in_groups_kinds.r absorb_in_groups_reads.Post
-absorb_in_groups_unique κs a x y e f p q = p ∙ sym q
-
-pub absorb_alone_unique : Unique 1 absorb_alone_kinds.ps absorb_alone_kinds.r absorb_alone_reads.Post
-absorb_alone_unique κs a x y e f p q = p ∙ sym q
+pub route_absorb_unique : Unique 1 route_absorb_kinds.ps route_absorb_kinds.r route_absorb_reads.Post
+route_absorb_unique κs a x y e f p q = p ∙ sym q

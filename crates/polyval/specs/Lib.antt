@@ -1,3 +1,4 @@
 -- What the contracts cite.
 pub mod FirstBlock
+pub mod Product
 pub mod Sizes

@@ -21,9 +21,9 @@ returns c =
     let b = c.args.second in
     let n = c.args.n in
     let h = h_of a.key in
-    let alike = (λ i. same_element (sym c.h_of-h.ensures i) (sym c.h_of.ensures i)) ∙ sym c.same.ensures ∙ c.if-not-same.false in
+    let alike = (λ i. not (same_element (sym c.h_of-h.ensures i) (sym c.h_of.ensures i))) ∙ sym c.ne.ensures ∙ c.if-ne.false in
     let made = c.times-made.ensures ∙ ap (λ x. multiplied_by (value x) n (value a.acc)) c.h_of-h.ensures in
     let product = value_of (times (value h) n (value a.acc)) (times_lt (value h) n (value a.acc) (value_lt a.acc (sized (goal.at.returns c).Start))) (ap (λ m. m.product) made) in
     let acc = c.add.ensures ∙ ap (λ x. element (x ⊕ value b.acc)) product in
     (λ i. record { answer = done; hash = record { key = a.key; acc = acc i; pending = replicate 16 0; count = 0 }; dots = (made i).dots })
-    ∙ sym (λ i. joined_or (cond (le-ltb 0 a.count c.if-first-gt0.false i) bad_record (cond (le-ltb 0 b.count c.if-second-gt0.false i) bad_record (cond (not (alike i)) bad_record done))) (joined a b n))
+    ∙ sym (λ i. joined_or (cond (le-ltb 0 a.count c.if-first-gt0.false i) bad_record (cond (le-ltb 0 b.count c.if-second-gt0.false i) bad_record (cond (alike i) bad_record done))) (joined a b n))

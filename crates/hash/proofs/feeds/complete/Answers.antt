@@ -39,9 +39,9 @@ returns c =
     let enough : room ≤ length s = omega (arith, many) in
     let first = c.kept-first.ensures
     ∙ filled_full (completed (pending_of h) s h.count room end at_count completes enough refl) (completed_length (pending_of h) s h.count room end at_count completes enough refl) in
-    let made = c.absorb_alone-made.ensures
+    let made = c.absorb-made.ensures
     ∙ (λ i. absorb_on c.args.route alone h.key (c.held.ensures i) (blocks (first i))) in
-    let more = c.absorb_alone-more.ensures ∙ ap (λ m. absorb_on c.args.route alone h.key m (blocks (take (end - room) (drop room s)))) made
+    let more = c.absorb-more.ensures ∙ ap (λ m. absorb_on c.args.route alone h.key m (blocks (take (end - room) (drop room s)))) made
     ∙ sym (alone_++ h.key (held_by h) sized c.args.route (blocks (completed (pending_of h) s h.count room end at_count completes enough refl)) (blocks (take (end - room) (drop room s))))
     ∙ ap (absorb_on c.args.route alone h.key (held_by h)) (sym (enough_blocks (pending_of h) s h.count room end at_count completes enough refl)) in
     c.holding.ensures ∙ (λ i. holding h.key (more i) ((part_rest end s ∙ sym (enough_short (pending_of h) s h.count room end at_count completes enough refl)) i))

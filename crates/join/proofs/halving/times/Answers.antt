@@ -36,4 +36,4 @@ returns c =
     let none : s.left ≡ 0 = omega arith in
     let product = sym (element_value s.product l.invariant.2) ∙ ap element (sym (ap (λ n. times (value s.square) n (value s.product)) none ∙ never (value s.square) (value s.product)) ∙ l.invariant.0) in
     let dots = sym (ap (λ n. s.dots + n) (ap dots_of none ∙ dots_none) ∙ add-zero s.dots) ∙ l.invariant.1 in
-    λ i. record { product = product i; dots = dots i }
+    c.counting.ensures ∙ (λ i. record { product = product i; dots = dots i })

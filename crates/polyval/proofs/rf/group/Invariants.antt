@@ -1,7 +1,5 @@
 -- `polyval::rf::group` meets its contract. Assumes nothing.
-use Prim.Native.Nat.{◌+◌, ◌-◌, ◌/◌, ◌≤◌, ◌<◌, ◌^◌}
-use mathlib.Core.Path.{◌≡◌}
-use lib.ListN.{length, drop}
+use Rattle.std.proofs.Common.{◌≡◌, ◌≤◌, ◌<◌, ◌^◌, length, take}
 use Rattle.field.specs.Element.{value}
 use Rattle.field.proofs.Aggregate.{rf_adds}
 use Rattle.rfc8452.specs.Blocks.{blocks}
@@ -9,10 +7,13 @@ use Rattle.feeding.specs.Key.{power_count}
 use Rattle.feeding.specs.Formulas.{paired, joining}
 use Rattle.polyval.proofs.rf.group.Given as goal
 
-abbrev pub invariant-loop-left : goal.invariant-loop-left
-invariant-loop-left l =
-    (l.i ≤ length l.s + 15) × (l.left ≡ (length l.s - l.i + 15) / 16) × (l.left ≤ power_count) × (value l.held < 2 ^ 128)
-    × (rf_adds (paired l.powers (joining (value l.held) (blocks (drop l.i l.s)))) l.sum ≡ rf_adds (paired l.powers (joining (value l.initial.held) (blocks l.s))) l.initial.sum)
-
-abbrev pub decreases-loop-left : goal.decreases-loop-left
-decreases-loop-left l = l.left
+-- a power for each block that is left; these added to the sum are all of s added to the first one
+abbrev pub invariant-loop-part : goal.invariant-loop-part
+invariant-loop-part l =
+    record {
+      sixteen : l.part-iterator.a.size ≡ 16;
+      few : length (blocks l.part-iterator.a.rest.now) ≤ power_count;
+      met : l.part-iterator.b.iter.rest.now ≡ take (length (blocks l.part-iterator.a.rest.now)) l.fn.powers;
+      fits : value l.held < 2 ^ 128;
+      left : rf_adds (paired l.fn.powers (joining (value l.held) (blocks l.part-iterator.a.rest.now))) l.sum ≡ rf_adds (paired l.fn.powers (joining (value l.initial.held) (blocks l.s))) l.initial.sum;
+    }
