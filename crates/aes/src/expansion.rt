@@ -1,6 +1,5 @@
 // The key expansion, FIPS 197 section 5.2, on the schedule's bytes: word i at 4 i.
 ghost use Rattle.std.specs.Prelude.{◌≡◌, ◌+◌, ◌-◌, ◌*◌, ◌/◌, ◌≤◌, ◌<◌, length, take};
-ghost use Rattle.fips197.specs.Sbox.{sbox_table};
 ghost use Rattle.fips197.specs.KeyExpansion as fips;
 
 use crate::Schedule;
@@ -31,44 +30,31 @@ fn rcon(j: usize) -> [u8; 4]
     [x, 0, 0, 0]
 }
 
-// The S-box, bound once for a whole expansion.
-#[derive(Drop)]
-struct Sbox {
-    table: [u8; 256],
-    ghost is_sbox: { table ≡ sbox_table },
+// Each byte of a word through the S-box.
+fn sub_word(t: [u8; 4]) -> [u8; 4]
+    ensures { result ≡ fips.sub_word t }
+{
+    let sbox = aes_tables::sbox_table();
+    [
+        sbox[t[0] as usize],
+        sbox[t[1] as usize],
+        sbox[t[2] as usize],
+        sbox[t[3] as usize],
+    ]
 }
 
-impl Sbox {
-    fn new() -> Sbox {
-        Sbox {
-            table: aes_tables::sbox_table(),
-        }
+// What is added to word i - nk, where t is the word before word i.
+fn temp(t: [u8; 4], i: usize, nk: usize) -> [u8; 4]
+    requires { 0 < nk }
+    ensures { result ≡ fips.temp nk i t }
+{
+    if i % nk == 0 {
+        return sum(sub_word([t[1], t[2], t[3], t[0]]), rcon(i / nk));
     }
-
-    fn sub_word(&self, t: [u8; 4]) -> [u8; 4]
-        ensures { result ≡ fips.sub_word t }
-    {
-        [
-            self.table[t[0] as usize],
-            self.table[t[1] as usize],
-            self.table[t[2] as usize],
-            self.table[t[3] as usize],
-        ]
+    if 6 < nk && i % nk == 4 {
+        return sub_word(t);
     }
-
-    // What is added to word i - nk, where t is the word before word i.
-    fn temp(&self, t: [u8; 4], i: usize, nk: usize) -> [u8; 4]
-        requires { 0 < nk }
-        ensures { result ≡ fips.temp nk i t }
-    {
-        if i % nk == 0 {
-            return sum(self.sub_word([t[1], t[2], t[3], t[0]]), rcon(i / nk));
-        }
-        if 6 < nk && i % nk == 4 {
-            return self.sub_word(t);
-        }
-        t
-    }
+    t
 }
 
 // Makes the words of w from the first nk, which are the key.
@@ -76,9 +62,8 @@ fn expand(w: &mut [u8], nk: usize)
     requires { (0 < nk) × (4 * nk ≤ length w.old) × (length w.old ≡ 4 * (length w.old / 4)) }
     ensures { w.new ≡ fips.expand nk (take (4 * nk) w.old) (length w.old / 4 - nk) }
 {
-    let sbox = Sbox::new();
     for i in nk..w.len() / 4 {
-        let next = sum(word(w, i - nk), sbox.temp(word(w, i - 1), i, nk));
+        let next = sum(word(w, i - nk), temp(word(w, i - 1), i, nk));
         octets::put(w, 4 * i, &next);
     }
 }

@@ -5,7 +5,7 @@ ghost use Rattle.octets.specs.Numbers.{bytes_of};
 ghost use Rattle.fips197.specs.Table.{tab};
 ghost use Rattle.fips197.specs.Sbox.{sbox};
 ghost use Rattle.fips197.specs.Cipher as fips;
-ghost use Rattle.aes_tables.specs.Words.{mixed0, word_table};
+ghost use Rattle.aes_tables.specs.Words.{mixed0};
 ghost use Rattle.aes.specs.State.{column_row, state_of};
 
 use crate::Schedule;
@@ -57,82 +57,62 @@ fn to_block(s: State) -> [u8; 16]
     ]
 }
 
-// The table of words, bound once for a whole encryption.
-#[derive(Drop)]
-struct Words {
-    table: [u32; 256],
-    ghost is_table: { table ≡ word_table },
+// The table's word for the lowest byte of x.
+fn lookup(x: u32) -> u32
+    ensures { result ≡ mixed0 (sbox (x % 256)) }
+{
+    aes_tables::word_table()[(x % 256) as usize]
 }
 
-impl Words {
-    fn new() -> Words {
-        Words {
-            table: aes_tables::word_table(),
-        }
-    }
+// The lowest byte of x through the S-box: row 1 of its word.
+fn sub(x: u32) -> u8
+    ensures { result ≡ sbox (x % 256) }
+{
+    (lookup(x) / 256 % 256) as u8
+}
 
-    // The table's word for the lowest byte of x.
-    fn lookup(&self, x: u32) -> u32
-        ensures { result ≡ mixed0 (sbox (x % 256)) }
-    {
-        self.table[(x % 256) as usize]
-    }
+// A column of a round but the last. ShiftRows brings its rows from the columns a, b, c and d.
+fn column(a: u32, b: u32, c: u32, d: u32) -> u32
+    ensures { bytes_of 4 result ≡ fips.mix_column (sbox (column_row 0 a)) (sbox (column_row 1 b)) (sbox (column_row 2 c)) (sbox (column_row 3 d)) }
+{
+    let p = lookup(a);
+    let q = lookup(b >> 8);
+    let r = lookup(c >> 16);
+    let s = lookup(d >> 24);
+    p ^ q.rotate_left(8) ^ r.rotate_left(16) ^ s.rotate_left(24)
+}
 
-    // The lowest byte of x through the S-box: row 1 of its word.
-    fn sub(&self, x: u32) -> u8
-        ensures { result ≡ sbox (x % 256) }
-    {
-        (self.lookup(x) / 256 % 256) as u8
-    }
+// SubBytes, ShiftRows and MixColumns of the whole state.
+fn columns(s: State) -> State
+    ensures { state_of result ≡ fips.mix_columns (fips.shift_rows (fips.sub_bytes (state_of s))) }
+{
+    let [a, b, c, d] = s;
+    [
+        column(a, b, c, d),
+        column(b, c, d, a),
+        column(c, d, a, b),
+        column(d, a, b, c),
+    ]
+}
 
-    // A column of a round but the last. ShiftRows brings its rows from the columns a, b, c and d.
-    fn column(&self, a: u32, b: u32, c: u32, d: u32) -> u32
-        ensures { bytes_of 4 result ≡ fips.mix_column (sbox (column_row 0 a)) (sbox (column_row 1 b)) (sbox (column_row 2 c)) (sbox (column_row 3 d)) }
-    {
-        let p = self.lookup(a);
-        let q = self.lookup(b >> 8);
-        let r = self.lookup(c >> 16);
-        let s = self.lookup(d >> 24);
-        p ^ q.rotate_left(8) ^ r.rotate_left(16) ^ s.rotate_left(24)
-    }
+// A column of the last round, which mixes none.
+fn last_column(a: u32, b: u32, c: u32, d: u32) -> u32
+    ensures { bytes_of 4 result ≡ sbox (column_row 0 a) ∷ sbox (column_row 1 b) ∷ sbox (column_row 2 c) ∷ sbox (column_row 3 d) ∷ [] }
+{
+    u32::from_le_bytes([sub(a), sub(b >> 8), sub(c >> 16), sub(d >> 24)])
+}
 
-    // SubBytes, ShiftRows and MixColumns of the whole state.
-    fn columns(&self, s: State) -> State
-        ensures { state_of result ≡ fips.mix_columns (fips.shift_rows (fips.sub_bytes (state_of s))) }
-    {
-        let [a, b, c, d] = s;
-        [
-            self.column(a, b, c, d),
-            self.column(b, c, d, a),
-            self.column(c, d, a, b),
-            self.column(d, a, b, c),
-        ]
-    }
-
-    // A column of the last round, which mixes none.
-    fn last_column(&self, a: u32, b: u32, c: u32, d: u32) -> u32
-        ensures { bytes_of 4 result ≡ sbox (column_row 0 a) ∷ sbox (column_row 1 b) ∷ sbox (column_row 2 c) ∷ sbox (column_row 3 d) ∷ [] }
-    {
-        u32::from_le_bytes([
-            self.sub(a),
-            self.sub(b >> 8),
-            self.sub(c >> 16),
-            self.sub(d >> 24),
-        ])
-    }
-
-    // SubBytes and ShiftRows of the whole state.
-    fn last_columns(&self, s: State) -> State
-        ensures { state_of result ≡ fips.shift_rows (fips.sub_bytes (state_of s)) }
-    {
-        let [a, b, c, d] = s;
-        [
-            self.last_column(a, b, c, d),
-            self.last_column(b, c, d, a),
-            self.last_column(c, d, a, b),
-            self.last_column(d, a, b, c),
-        ]
-    }
+// SubBytes and ShiftRows of the whole state.
+fn last_columns(s: State) -> State
+    ensures { state_of result ≡ fips.shift_rows (fips.sub_bytes (state_of s)) }
+{
+    let [a, b, c, d] = s;
+    [
+        last_column(a, b, c, d),
+        last_column(b, c, d, a),
+        last_column(c, d, a, b),
+        last_column(d, a, b, c),
+    ]
 }
 
 impl<const N: usize> Schedule<N> {
@@ -141,13 +121,12 @@ impl<const N: usize> Schedule<N> {
     pub fn encrypt(&self, block: [u8; 16]) -> [u8; 16]
         ensures { result ≡ fips.cipher (N / 16 - 1) self.now.bytes block }
     {
-        let words = Words::new();
         let w = &self.bytes;
         let last = N / 16 - 1;
         let mut s = add_round_key(load(&block, 0), w, 0);
         for r in 1..last {
-            s = add_round_key(words.columns(s), w, r);
+            s = add_round_key(columns(s), w, r);
         }
-        to_block(add_round_key(words.last_columns(s), w, last))
+        to_block(add_round_key(last_columns(s), w, last))
     }
 }

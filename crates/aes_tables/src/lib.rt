@@ -1,4 +1,4 @@
-// The two tables that AES reads, with what they are. A caller binds a table once and lends it: a constant is built anew at each use.
+// The two tables that AES reads, with what they are.
 #![tactic(auto)]
 
 ghost use Rattle.std.specs.Prelude.{◌≡◌};
@@ -6,7 +6,7 @@ ghost use Rattle.fips197.specs.Sbox.{sbox_table};
 ghost use Rattle.aes_tables.specs.Words.{word_table};
 
 // FIPS 197's S-box, section 5.1.1.
-const SBOX: [u8; 256] = [
+static SBOX: [u8; 256] = [
     0x63, 0x7c, 0x77, 0x7b, 0xf2, 0x6b, 0x6f, 0xc5, 0x30, 0x01, 0x67, 0x2b, 0xfe, 0xd7, 0xab, 0x76,
     0xca, 0x82, 0xc9, 0x7d, 0xfa, 0x59, 0x47, 0xf0, 0xad, 0xd4, 0xa2, 0xaf, 0x9c, 0xa4, 0x72, 0xc0,
     0xb7, 0xfd, 0x93, 0x26, 0x36, 0x3f, 0xf7, 0xcc, 0x34, 0xa5, 0xe5, 0xf1, 0x71, 0xd8, 0x31, 0x15,
@@ -26,7 +26,7 @@ const SBOX: [u8; 256] = [
 ];
 
 // A byte of row 0 through the S-box, and what it then adds to the four rows of its column, the first row lowest: {02}, {01}, {01} and {03} times.
-const WORDS: [u32; 256] = [
+static WORDS: [u32; 256] = [
     0xa563_63c6,
     0x847c_7cf8,
     0x9977_77ee,
@@ -285,16 +285,16 @@ const WORDS: [u32; 256] = [
     0x3a16_162c,
 ];
 
-// The S-box as a value, with its promise.
-pub fn sbox_table() -> [u8; 256]
-    ensures { result ≡ sbox_table }
+// The S-box, with its promise: a static alone carries none.
+pub fn sbox_table() -> &'static [u8; 256]
+    ensures { result.now ≡ sbox_table }
 {
-    SBOX
+    &SBOX
 }
 
-// The table of words as a value, with its promise.
-pub fn word_table() -> [u32; 256]
-    ensures { result ≡ word_table }
+// The table of words, with its promise.
+pub fn word_table() -> &'static [u32; 256]
+    ensures { result.now ≡ word_table }
 {
-    WORDS
+    &WORDS
 }

@@ -1,8 +1,8 @@
--- `aes::rounds::Words::last_columns` meets its contract. Assumes nothing.
+-- `aes::rounds::last_columns` meets its contract. Assumes nothing.
 use Rattle.octets.specs.Numbers.{bytes_of}
 use Rattle.fips197.specs.Cipher.{sub_bytes, shift_rows}
 use Rattle.aes.proofs.Words.{beside}
-use Rattle.aes.proofs.rounds.Words.last_columns.Goals as goal
+use Rattle.aes.proofs.rounds.last_columns.Goals as goal
 
 pub returns : goal.returns
 unfolding bytes_of shift_rows sub_bytes

@@ -1,4 +1,4 @@
--- `aes::rounds::Words::column` meets its contract. Assumes nothing.
+-- `aes::rounds::column` meets its contract. Assumes nothing.
 use mathlib.Core.Path.{ap, ◌∙◌}
 use Prim.Native.Nat.{ℕ, ◌/◌, ◌%◌, ◌^◌}
 use Rattle.octets.specs.Numbers.{bytes_of}
@@ -7,7 +7,7 @@ use Rattle.fips197.proofs.Sbox.{sbox_lt}
 use Rattle.fips197.specs.Cipher.{mix_column}
 use Rattle.fips197.specs.Sbox.{sbox}
 use Rattle.aes.proofs.Words.{row0, row1, row2, row3, turned, column_law}
-use Rattle.aes.proofs.rounds.Words.column.Goals as goal
+use Rattle.aes.proofs.rounds.column.Goals as goal
 
 pub returns : goal.returns
 unfolding ◌⊕◌

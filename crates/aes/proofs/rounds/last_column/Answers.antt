@@ -1,4 +1,4 @@
--- `aes::rounds::Words::last_column` meets its contract. Assumes nothing.
+-- `aes::rounds::last_column` meets its contract. Assumes nothing.
 use mathlib.Core.List.{[], ◌∷◌}
 use mathlib.Core.Path.{refl, ap, ◌∙◌}
 use borrow.Author.Rules.{rules}
@@ -6,7 +6,7 @@ use Rattle.std.specs.Int.{w32}
 use Rattle.fips197.specs.Sbox.{sbox}
 use Rattle.octets.proofs.Endian.{le_joined}
 use Rattle.aes.proofs.Words.{row0, row1, row2, row3}
-use Rattle.aes.proofs.rounds.Words.last_column.Goals as goal
+use Rattle.aes.proofs.rounds.last_column.Goals as goal
 
 pub returns : goal.returns
 returns c =

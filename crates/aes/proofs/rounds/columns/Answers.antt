@@ -1,8 +1,8 @@
--- `aes::rounds::Words::columns` meets its contract. Assumes nothing.
+-- `aes::rounds::columns` meets its contract. Assumes nothing.
 use Rattle.octets.specs.Numbers.{bytes_of}
 use Rattle.fips197.specs.Cipher.{sub_bytes, shift_rows, mix_columns}
 use Rattle.aes.proofs.Words.{beside}
-use Rattle.aes.proofs.rounds.Words.columns.Goals as goal
+use Rattle.aes.proofs.rounds.columns.Goals as goal
 
 pub returns : goal.returns
 unfolding bytes_of mix_columns shift_rows sub_bytes
