@@ -6,11 +6,19 @@ use lib.ListN.{length, take, drop}
 use lib.Seq.{take_at, drop_at}
 use Rattle.std.proofs.lemmas.List.{take_min, drop_min, nil_from_length}
 use Rattle.octets.specs.Numbers.{number}
+use Rattle.field.specs.declared.field_element.FieldElement.{FieldElement}
+use Rattle.field.specs.Element.{value, element}
+use Rattle.field.proofs.Element.{value_of}
 use Rattle.rfc8452.specs.Machine.{step, run}
 use Rattle.rfc8452.specs.Blocks.{blocks}
 use Rattle.rfc8452.proofs.Cut.{blocks-none}
 use Rattle.rfc8452.proofs.Parts.{blocks_cons}
 use Rattle.rfc8452.specs.AppendixA.{reversed}
+use Rattle.rfc8452.proofs.Reversed.{reversed_lt}
+
+-- what an element's reversal is worth
+pub reverse_value : {r : FieldElement} (e : FieldElement) → r ≡ element (reversed (value e)) → value r ≡ reversed (value e)
+reverse_value e = value_of (reversed (value e)) (reversed_lt (value e))
 
 -- x is the front of what is left: 16 bytes, or all of it where that is shorter
 module _ (h a : ℕ) (s x t : List ℕ) (cut : s ≡ x ++ t) (long : length x ≡ min 16 (length s)) where

@@ -1,12 +1,15 @@
 -- The bytes of the stored powers, one behind another. Assumes nothing.
-use Prim.Native.Nat.{ℕ, zero, suc, ◌+◌, ◌*◌, ◌<◌}
+use Prim.Native.Nat.{ℕ, zero, suc, ◌+◌, ◌-◌, ◌*◌, ◌<◌, ◌≤◌}
 use mathlib.Core.Path.{◌≡◌, refl, ap, ◌∙◌}
 use mathlib.Core.List.{List, [], ◌∷◌, ◌++◌, map}
 use native.Mathlib.Omega.{arith}
-use lib.ListN.{length, get_or, length-append}
+use lib.ListN.{length, get_or, take, drop, length-append}
+use lib.Seq.{take-take, drop-drop}
 use Rattle.std.specs.List.{flat_map}
+use Rattle.octets.specs.Numbers.{number}
 use Rattle.octets.proofs.Numbers.{bytes_of-length}
-use Rattle.field.specs.Element.{value}
+use Rattle.octets.proofs.Parts.{drop-take}
+use Rattle.field.specs.Element.{value, element}
 use Rattle.feeding.specs.declared.Power.{Power}
 use Rattle.record.specs.Bytes.{element_bytes, powers_bytes, power_in, powers_at}
 
@@ -38,3 +41,13 @@ unfolding powers_at
 powers_at-at zero i k b d h = absurd (omega arith)
 powers_at-at (suc n) i zero b d h = let here : i ≡ i + 0 * 32 = omega arith in ap (λ (j : ℕ). power_in j b) here
 powers_at-at (suc n) i (suc k) b d h = let there : i + 32 + k * 32 ≡ i + suc k * 32 = omega arith in powers_at-at n (i + 32) k b d (omega arith) ∙ ap (λ (j : ℕ). power_in j b) there
+
+-- a power read at its place is the one at the front of what begins there
+pub power_from : (n m : ℕ) (b : List ℕ) → 32 ≤ m → power_in 0 (take m (drop n b)) ≡ power_in n b
+power_from n m b h =
+    let d : List ℕ = drop n b in
+    let cut : m ≡ 16 + (m - 16) = omega arith in
+    let first : take 16 (take m d) ≡ take 16 d = take-take 16 m d (omega arith) in
+    let second : take 16 (drop 16 (take m d)) ≡ take 16 (drop (n + 16) b) =
+    ap (λ (k : ℕ). take 16 (drop 16 (take k d))) cut ∙ ap (take 16) (drop-take 16 (m - 16) d) ∙ take-take 16 (m - 16) (drop 16 d) (omega arith) ∙ ap (take 16) (drop-drop 16 n b) in
+    λ i. record { h = element (number (first i)); d = element (number (second i)) }

@@ -2,7 +2,7 @@
 // on it answers. Assumes nothing.
 #![tactic(auto)]
 
-ghost use Rattle.std.specs.Prelude.{◌≡◌, [], ◌∷◌, ◌+◌, ◌≤◌, length};
+ghost use Rattle.std.specs.Prelude.{◌≡◌, [], ◌∷◌, ◌≤◌, length};
 ghost use Rattle.record.specs.Bytes.{element_bytes, record_bytes, power_in, record_of};
 
 use feeding::{ExpandedKey, Hash, POWERS, Power};
@@ -38,14 +38,14 @@ pub fn encode(h: Hash) -> [u8; RECORD_SIZE]
     out
 }
 
-// The power that stands at a place.
-fn power_at(b: &[u8], at: usize) -> Power
-    requires { at + 32 ≤ length b.now }
-    ensures { result ≡ power_in at b.now }
+// The power at the front.
+fn power_of(b: &[u8]) -> Power
+    requires { 32 ≤ length b.now }
+    ensures { result ≡ power_in 0 b.now }
 {
     Power {
-        h: block::block_of(&b[at..]),
-        d: block::block_of(&b[at + 16..]),
+        h: block::block_of(b),
+        d: block::block_of(&b[16..]),
     }
 }
 
@@ -55,7 +55,7 @@ pub fn decode(b: [u8; RECORD_SIZE]) -> Hash
 {
     Hash {
         key: ExpandedKey {
-            powers: array::from_fn(|i| power_at(&b, i * 32)),
+            powers: array::from_fn(|i| power_of(&b[i * 32..])),
         },
         acc: block::block_of(&b[KEY_SIZE..]),
         pending: *b[KEY_SIZE + 16..].first_chunk().unwrap(),

@@ -12,8 +12,7 @@ use Rattle.rfc8452.specs.Machine.{step, run}
 use Rattle.rfc8452.specs.Blocks.{blocks}
 use Rattle.rfc8452.proofs.Run.{step_lt}
 use Rattle.rfc8452.specs.AppendixA.{reversed}
-use Rattle.rfc8452.proofs.Reversed.{reversed_lt}
-use Rattle.ghash.proofs.Fed.{fed_turn, fed_none}
+use Rattle.ghash.proofs.Fed.{reverse_value, fed_turn, fed_none}
 use Rattle.ghash.proofs.parts.Ghash.feed_padded.Goals as goal
 use Rattle.ghash.proofs.parts.Ghash.feed_padded.Goals.{Start}
 
@@ -37,7 +36,7 @@ loop-part-preserved c =
     let long : length part ≡ min 16 (length s) = turn.1.1 ∙ ap (λ n. min n (length s)) l.invariant.sixteen in
     let x : ℕ = reversed (number part) in
     let b = c.block_of in
-    let x-is = value_of (reversed (value b.result)) (reversed_lt (value b.result)) c.reverse.ensures ∙ ap reversed (b.ensures.whole ∙ ap number (take_all 16 part (omega (arith, long)))) in
+    let x-is = reverse_value b.result c.reverse.ensures ∙ ap reversed (b.ensures.whole ∙ ap number (take_all 16 part (omega (arith, long)))) in
     let next = c.step-acc.ensures ∙ ap (λ n. element (step K (value l.acc) n)) x-is in
     let next_is = value_of (step K (value l.acc) x) (step_lt K (value l.acc) x) next in
     record {

@@ -11,11 +11,10 @@ use borrow.Author.Tests.{eq-eqb}
 use Rattle.answer.specs.Answers.{done, key_length}
 use Rattle.gf2.specs.Polyval.{mulx}
 use Rattle.octets.specs.Numbers.{number}
-use Rattle.field.specs.Element.{value, element}
-use Rattle.field.proofs.Element.{value_of}
+use Rattle.field.specs.Element.{element}
 use Rattle.rfc8452.specs.AppendixA.{reversed, key_for}
-use Rattle.rfc8452.proofs.Reversed.{reversed_lt}
 use Rattle.ghash.specs.Calls.{Started}
+use Rattle.ghash.proofs.Fed.{reverse_value}
 use Rattle.ghash.proofs.parts.Ghash.start.Goals as goal
 
 -- by the outcome of the test
@@ -30,6 +29,6 @@ returns c =
     let long : length k ≡ 16 = c.if-key-ne16.false in
     let number_is = c.block_of.ensures.whole ∙ ap number (take_all 16 k (omega arith)) in
     let key = c.mulx.ensures
-    ∙ ap (λ n. element (mulx n)) (value_of (reversed (value c.block_of.result)) (reversed_lt (value c.block_of.result)) c.reverse.ensures)
+    ∙ ap (λ n. element (mulx n)) (reverse_value c.block_of.result c.reverse.ensures)
     ∙ ap (λ n. element (mulx (reversed n))) number_is in
     (λ i. record { answer = done; ghash = record { key = key i; acc = element 0 } }) ∙ sym (ap (by_test k) (eq-eqb (length k) 16 long))
