@@ -1,7 +1,7 @@
 -- Reading as the code goes: by what opening answers, and what is left in the output. Assumes nothing.
-use Prim.Native.Nat.{ℕ, ◌+◌, ◌-◌, ◌≤◌, ◌<◌}
+use Prim.Native.Nat.{ℕ, ◌+◌, ◌-◌, ◌≤◌}
 use mathlib.Core.Path.{◌≡◌, sym, ap, ◌∙◌}
-use mathlib.Core.Bool.{true}
+use mathlib.Core.Bool.{Bool, true}
 use mathlib.Core.List.{List, ◌++◌, append-nil}
 use native.Mathlib.Omega.{arith}
 use borrow.Author.Tests.{eq-eqb, ne_eqb}
@@ -9,34 +9,27 @@ use lib.ListN.{length, take, drop_of_length-le}
 use lib.Seq.{length-take-le}
 use Rattle.answer.specs.First.{◌then◌}
 use Rattle.answer.proofs.First.{then_refused, then_passed}
-use Rattle.octets.specs.Strings.{copied}
-use Rattle.octets.proofs.Copies.{copied_fits}
 use Rattle.sealing.specs.Calls as calls
 use Rattle.sealing.specs.Calls.{written}
-use Rattle.sealing.proofs.Refusals.{open_no_room, open_room}
+use Rattle.sealing.proofs.Refusals.{refused_early, open_room}
 use Rattle.sealing.proofs.Done.{openable}
 use Rattle.rfc8452.specs.Siv.{authentic}
 use Rattle.sealing.specs.Siv.{open_answer, Opens}
-use Rattle.framing.specs.declared.Front.TheVariants.{Whole, Stop}
 use Rattle.framing.specs.Kinds.{max_frame_plaintext}
-use Rattle.framing.specs.Front.{kind_of, taken_of, stop_of, front_of}
+use Rattle.framing.specs.Front.{Whole, Stop, kind_of, taken_of, stop_of, front_of}
 use Rattle.framing.proofs.Whole.{no_reason}
-use Rattle.messaging.specs.declared.Message.{Message}
-use Rattle.messaging.specs.declared.Message.TheVariants.{Refused}
+use Rattle.messaging.specs.Reading.{Reading, Refused}
 use Rattle.messaging.specs.Parts.{ad_in, nonce_in, sealed_in, opened_in}
 use Rattle.messaging.specs.Message.{content_answer, message_of}
 use Rattle.messaging.specs.Read.{or_refused, read_answer, read_of, read_out, Reads}
 use Rattle.messaging.proofs.Reading.{stop_read, stop_out, whole, least, nonce_length_lem, ad_length, sealed_length, text_length}
 
 -- a number that is not 0 refuses, and leaves the output as it was
-refuses : (a : ℕ) (m : Message) → (a ≡ 0 → ⊥) → Refused a ≡ or_refused a m
+refuses : (a : ℕ) (m : Reading) → (a ≡ 0 → ⊥) → Refused a ≡ or_refused a m
 refuses a m h = sym (rw (ne_eqb a 0 h))
 
-pub leaves : (a : ℕ) (new out : List ℕ) → (a ≡ 0 → ⊥) → out ≡ written a new out
+leaves : (a : ℕ) (new out : List ℕ) → (a ≡ 0 → ⊥) → out ≡ written a new out
 leaves a new out h = sym (rw (ne_eqb a 0 h))
-
-pub put_done : (a : ℕ) (text out after : List ℕ) → a ≡ 0 → length text ≤ length out → after ≡ copied text out → after ≡ written a text out
-put_done a text out after z l e = e ∙ copied_fits text out l ∙ ap (λ n. written n text out) (sym z)
 
 module _ (key s out : List ℕ) where
   refused : (a : ℕ) → read_answer key s (length out) ≡ a → (a ≡ 0 → ⊥) → Reads key s out (Refused a) out
@@ -62,15 +55,20 @@ module _ (key s out : List ℕ) where
     pub refused_opening : (a : ℕ) → a ≡ opening (length out) → (a ≡ 0 → ⊥) → Reads key s out (Refused a) out
     refused_opening a e h = refused a (after_front ∙ then_refused (opening (length out)) _ (λ z. h (e ∙ z)) ∙ sym e) h
 
-    -- no room: what opening refuses by its lengths
-    pub no_room_lem : (a : ℕ) → length out < taken - 32 → a ≡ calls.open_answer (length key) 12 4 (taken - 32 + 16) (length out) true → Reads key s out (Refused a) out
-    no_room_lem a h e =
-        let by_lengths : a ≡ calls.open_answer (length key) (length (nonce_in s)) (length (ad_in s)) (length (sealed_in s)) (length out) true =
-        e ∙ (λ i. calls.open_answer (length key) (sym (nonce_length_lem key s kind taken w) i) (sym (ad_length key s kind taken w) i) (sym (sealed_length key s kind taken w) i) (length out) true) in
-        let too_long : length out < length (sealed_in s) - 16 = omega (arith, sealed_length key s kind taken w) in
+    -- what opening refuses by its lengths, and the room where these pass
+    by_lengths : (b : Bool) → calls.open_answer (length key) 12 4 (taken - 32 + 16) (length out) b ≡ calls.open_answer (length key) (length (nonce_in s)) (length (ad_in s)) (length (sealed_in s)) (length out) b
+    by_lengths b = λ i. calls.open_answer (length key) (sym (nonce_length_lem key s kind taken w) i) (sym (ad_length key s kind taken w) i) (sym (sealed_length key s kind taken w) i) (length out) b
+
+    pub lengths_refuse : (a : ℕ) → a ≡ calls.open_answer (length key) 12 4 (taken - 32 + 16) (length out) true → (a ≡ 0 → ⊥) → Reads key s out (Refused a) out
+    lengths_refuse a e h =
+        let here = e ∙ by_lengths true in
         refused_opening a
-        (by_lengths ∙ open_no_room (length key) (length (nonce_in s)) (length (ad_in s)) (length (sealed_in s)) (length out) true (authentic key (nonce_in s) (ad_in s) (sealed_in s)) too_long)
-        (λ z. let o = openable (length key) (length (nonce_in s)) (length (ad_in s)) (length (sealed_in s)) (length out) true (sym by_lengths ∙ z) in omega (arith, o.0.room))
+        (here ∙ refused_early (length key) (length (nonce_in s)) (length (ad_in s)) (length (sealed_in s)) (length out) (authentic key (nonce_in s) (ad_in s) (sealed_in s)) (λ z. h (here ∙ z))) h
+
+    pub lengths_pass : calls.open_answer (length key) 12 4 (taken - 32 + 16) (length out) true ≡ 0 → taken - 32 ≤ length out
+    lengths_pass z =
+        let o = openable (length key) (length (nonce_in s)) (length (ad_in s)) (length (sealed_in s)) (length out) true (sym (by_lengths true) ∙ z) in
+        omega (arith, o.0.room, sealed_length key s kind taken w)
 
     -- room: how much there is plays no part
     pub same_opening : taken - 32 ≤ length out → opening (taken - 32) ≡ opening (length out)
@@ -91,7 +89,7 @@ module _ (key s out : List ℕ) where
           (ap (λ x. opened_in key s ++ x) (drop_of_length-le (take (taken - 32) buffer) {i = length (opened_in key s)} (omega (arith, part_length, text_length key s kind taken w))) ∙ append-nil (opened_in key s))
 
     -- opened: what the plaintext says, or why it may not stand
-    pub delivered : (text : List ℕ) (r : Message) (after : List ℕ) → opening (length out) ≡ 0 → text ≡ opened_in key s
+    pub delivered : (text : List ℕ) (r : Reading) (after : List ℕ) → opening (length out) ≡ 0 → text ≡ opened_in key s
         → r ≡ or_refused (content_answer kind text) (message_of kind text taken) → after ≡ written (content_answer kind text) text out → Reads key s out r after
     unfolding read_of read_out
     delivered text r after o t er ea =

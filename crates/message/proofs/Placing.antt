@@ -1,5 +1,5 @@
 -- A frame's parts, put to their places in the output one after the other; and what writing leaves. Assumes nothing.
-use Prim.Native.Nat.{ℕ, ◌+◌, ◌-◌, ◌≤◌, ◌<◌}
+use Prim.Native.Nat.{ℕ, ◌+◌, ◌-◌, ◌≤◌}
 use mathlib.Core.Path.{◌≡◌, refl, sym, ap, ap₂, ◌∙◌}
 use mathlib.Core.List.{List, ◌++◌, append_assoc}
 use native.Mathlib.Omega.{arith}
@@ -13,7 +13,6 @@ use Rattle.octets.specs.Strings.{copied}
 use Rattle.octets.proofs.Copies.{copied_fits}
 use Rattle.sealing.specs.Calls as calls
 use Rattle.sealing.specs.Calls.{written}
-use Rattle.sealing.proofs.Refusals.{seal_no_room}
 use Rattle.sealing.proofs.Done.{sealable}
 use Rattle.rfc8452.specs.Siv.{sealed}
 use Rattle.sealing.specs.Siv.{seal_answer, Seals}
@@ -110,14 +109,12 @@ module _ (kind : ℕ) (key nonce text out : List ℕ) where
     unfolding write_answer
     after_plain = then_passed (plain_answer kind text) _ passed
 
-    -- no room: what sealing refuses by its lengths
-    pub no_room_lem : (a : ℕ) → length out < length text + 32 → a ≡ calls.seal_answer (length key) (length nonce) 4 (length text) 0 → Writes kind key nonce text out (record { answer = a; len = 0 }) out
-    no_room_lem a h e =
-        let same : a ≡ seal_answer key nonce (ad_of kind text) text (length out - 16) =
-        e ∙ (λ i. calls.seal_answer (length key) (length nonce) (sym (ad_length kind text) i) (length text) 0)
-        ∙ seal_no_room (length key) (length nonce) (length (ad_of kind text)) (length text) 0 (length out - 16) (omega arith) (omega arith) in
-        write_refused a (after_plain ∙ sym same)
-        (λ z. let s = sealable (length key) (length nonce) (length (ad_of kind text)) (length text) (length out - 16) (sym same ∙ z) in omega (arith, s.room)) out refl
+    -- what sealing refuses by its lengths, and the room where these pass
+    pub lengths_refuse : (a : ℕ) → a ≡ calls.seal_answer (length key) (length nonce) 4 (length text) (length out - 16) → (a ≡ 0 → ⊥) → Writes kind key nonce text out (record { answer = a; len = 0 }) out
+    lengths_refuse a e h = write_refused a (after_plain ∙ sym (e ∙ (λ i. calls.seal_answer (length key) (length nonce) (sym (ad_length kind text) i) (length text) (length out - 16)))) h out refl
+
+    pub lengths_pass : calls.seal_answer (length key) (length nonce) 4 (length text) (length out - 16) ≡ 0 → 16 ≤ length out
+    lengths_pass z = let s = sealable (length key) (length nonce) 4 (length text) (length out - 16) z in omega (arith, s.room)
 
     module _ (r : ℕ) (after : List ℕ) (f : SealsFrame kind key nonce text out r after) where
       pub sealing_refused : (r ≡ 0 → ⊥) → Writes kind key nonce text out (record { answer = r; len = 0 }) after

@@ -1,35 +1,20 @@
--- What a plaintext says and whether it may stand, kind by kind, as the code asks. Assumes nothing.
-use Prim.Native.Nat.{ℕ}
-use mathlib.Core.Path.{◌≡◌, sym, ap, ◌∙◌}
-use mathlib.Core.Bool.{true, false}
-use mathlib.Core.List.{List}
-use borrow.Author.Tests.{eq-eqb, ne_eqb}
-use lib.ListN.{length}
-use Rattle.answer.specs.Answers.{out_of_range}
-use Rattle.framing.specs.declared.position.Position.{Position}
-use Rattle.framing.specs.Position.{in_range, position_of}
-use Rattle.framing.specs.Kinds as kinds
+-- What a call of the crate hands on, and what is told of a message. Assumes nothing.
+use mathlib.Core.Path.{◌≡◌, refl, ap}
+use Rattle.std.specs.Prelude.{Result, Ok, Err}
+use Rattle.std.specs.Result.{IsErrAnd}
+use Rattle.answer.specs.declared.Reason.{Reason}
 use Rattle.messaging.specs.declared.Message.{Message}
-use Rattle.messaging.specs.declared.Message.TheVariants as message
-use Rattle.messaging.specs.Message.{content_answer, message_of}
-use Rattle.messaging.specs.Read.{or_refused}
+use Rattle.messaging.specs.declared.Message.TheVariants as code
+use Rattle.messaging.specs.Reading.{reading_told}
+use Rattle.messaging.specs.Message.{values_of}
 
-module _ (kind : ℕ) (text : List ℕ) (taken : ℕ) where
-  abbrev pub told_of : Message
-  told_of = or_refused (content_answer kind text) (message_of kind text taken)
+-- what `?` hands on is the reason itself
+pub passed_on : {T : Type 0} (r : Result T Reason) (x : Reason) → IsErrAnd r (λ e. e ≡ x) → r ≡ Err x
+passed_on (Ok y) x p = absurd p
+passed_on (Err y) x p = ap Err p
 
-  module _ (e : kind ≡ kinds.position) (p : Position) (q : p ≡ position_of text) where
-    asked : {b : _} → in_range p ≡ b → in_range (position_of text) ≡ b
-    asked h = sym (ap in_range q) ∙ h
-
-    pub within_range : in_range p ≡ true → message.Position p taken ≡ told_of
-    within_range h = ap (λ x. message.Position x taken) q ∙ sym (simp (eq-eqb _ _ e, asked h))
-
-    pub out_of_range_lem : in_range p ≡ false → message.Refused out_of_range ≡ told_of
-    out_of_range_lem h = sym (simp (eq-eqb _ _ e, asked h))
-
-  pub is_text : kind ≡ kinds.text → message.Text (length text) taken ≡ told_of
-  is_text e = sym (rw e)
-
-  pub is_check_in : (kind ≡ kinds.position → ⊥) → (kind ≡ kinds.text → ⊥) → message.CheckIn taken ≡ told_of
-  is_check_in e h = sym (simp (ne_eqb _ _ e, ne_eqb _ _ h))
+-- a message is told with the answer 0
+pub told_done : (m : Message) → (values_of (reading_told (Ok m))).answer ≡ 0
+told_done (code.Position p n) = refl
+told_done (code.Text l n) = refl
+told_done (code.CheckIn n) = refl

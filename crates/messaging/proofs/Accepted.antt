@@ -10,12 +10,11 @@ use lib.Seq.{take_at}
 use Rattle.octets.proofs.Numbers.{Bytes, bytes_take}
 use Rattle.framing.specs.declared.position.Position.{Position}
 use Rattle.framing.specs.Position.{position_bytes}
-use Rattle.framing.specs.Kinds as kinds
 use Rattle.framing.specs.Kinds.{is_allowed}
 use Rattle.framing.specs.Front.{kind_of, taken_of}
 use Rattle.framing.proofs.RoundTrip.{bytes_position}
-use Rattle.messaging.specs.declared.Message.{Message}
-use Rattle.messaging.specs.declared.Message.TheVariants as message
+use Rattle.messaging.specs.Reading.{Reading}
+use Rattle.messaging.specs.Reading as message
 use Rattle.messaging.specs.Parts.{frame_of, nonce_in, opened_in}
 use Rattle.messaging.specs.Message.{message_of, values_of}
 use Rattle.messaging.specs.Write.{write_answer}
@@ -25,7 +24,7 @@ use Rattle.messaging.proofs.Values.{not_refused, kind_value, taken_value, spelle
 use Rattle.messaging.proofs.Trips.{whole, len_is, frame_again, write_again}
 
 -- a reading that was not refused
-module _ (key s out : List ℕ) (r : Message) (after : List ℕ) (bytes : Bytes s) (reads : Reads key s out r after) (ok : (values_of r).answer ≡ 0) where
+module _ (key s out : List ℕ) (r : Reading) (after : List ℕ) (bytes : Bytes s) (reads : Reads key s out r after) (ok : (values_of r).answer ≡ 0) where
   abbrev text : List ℕ
   text = opened_in key s
 

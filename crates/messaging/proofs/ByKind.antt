@@ -8,7 +8,7 @@ use Rattle.framing.specs.declared.position.Position.{Position}
 use Rattle.framing.specs.Position.{position_bytes}
 use Rattle.framing.proofs.RoundTrip.{Fits, position_length, position_bytes_lem}
 use Rattle.framing.specs.Kinds as kinds
-use Rattle.messaging.specs.declared.Message.TheVariants as message
+use Rattle.messaging.specs.Reading as message
 use Rattle.messaging.specs.Parts.{frame_of}
 use Rattle.messaging.specs.Write.{write_answer}
 use Rattle.messaging.specs.Read.{read_of}

@@ -14,7 +14,7 @@ use Rattle.framing.specs.Kinds as kinds
 use Rattle.framing.specs.Front.{mark}
 use Rattle.framing.proofs.RoundTrip.{position_length}
 use Rattle.framing.proofs.Cases as frames
-use Rattle.messaging.specs.declared.Message.TheVariants.{Refused}
+use Rattle.messaging.specs.Reading.{Refused}
 use Rattle.messaging.specs.Parts.{frame_of}
 use Rattle.messaging.specs.Message.{content_answer}
 use Rattle.messaging.specs.Write.{write_answer}

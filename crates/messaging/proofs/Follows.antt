@@ -10,8 +10,7 @@ use Rattle.answer.specs.First.{◌then◌}
 use Rattle.rfc8452.specs.Siv.{opened}
 use Rattle.sealing.specs.Calls.{written}
 use Rattle.sealing.specs.Siv.{open_answer}
-use Rattle.framing.specs.declared.Front.TheVariants.{Whole}
-use Rattle.framing.specs.Front.{kind_of, sealed_len, stop_of, front_of}
+use Rattle.framing.specs.Front.{Whole, kind_of, sealed_len, stop_of, front_of}
 use Rattle.framing.proofs.Whole.{is_whole, whole_bounds, no_reason, front_before, front_alone}
 use Rattle.messaging.specs.Parts.{ad_in, nonce_in, sealed_in}
 use Rattle.messaging.specs.Message.{content_answer, message_of}

@@ -16,3 +16,4 @@ pub mod Logs
 pub mod Places
 pub mod Orders
 pub mod Cases
+pub mod Told

@@ -11,7 +11,7 @@ use Rattle.answer.specs.Answers.{cut_short}
 use Rattle.framing.specs.Scan.{none, scan_of}
 use Rattle.framing.proofs.Longest.{IsFrame}
 use Rattle.framing.proofs.NoCutFrame.{cut_is_12, cut_scans_none}
-use Rattle.messaging.specs.declared.Message.TheVariants.{Refused}
+use Rattle.messaging.specs.Reading.{Refused}
 use Rattle.messaging.specs.Parts.{frame_of}
 use Rattle.messaging.specs.Write.{write_answer}
 use Rattle.messaging.specs.Read.{read_of, read_out}

@@ -18,12 +18,11 @@ use Rattle.sealing.specs.Calls as calls
 use Rattle.sealing.specs.Calls.{is_no_key, is_no_nonce}
 use Rattle.sealing.specs.Siv.{open_answer}
 use Rattle.sealing.proofs.Refusals.{short_key, long_key_lem}
-use Rattle.framing.specs.declared.Front.TheVariants.{Whole}
 use Rattle.framing.specs.Position.{position_of}
 use Rattle.framing.specs.Kinds as kinds
-use Rattle.framing.specs.Front.{checks, stop_of, front_of}
+use Rattle.framing.specs.Front.{Whole, checks, stop_of, front_of}
 use Rattle.framing.proofs.Whole.{no_reason}
-use Rattle.messaging.specs.declared.Message.TheVariants.{Refused}
+use Rattle.messaging.specs.Reading.{Refused}
 use Rattle.messaging.specs.Parts.{ad_in, nonce_in, sealed_in, opened_in}
 use Rattle.messaging.specs.Message.{content_answer}
 use Rattle.messaging.specs.Write.{kind_answer, plain_answer, write_answer, written_of}

@@ -9,7 +9,7 @@ use Rattle.octets.specs.Numbers.{number, bytes_of}
 use Rattle.rfc8452.specs.Siv.{sealed, opened}
 use Rattle.framing.specs.declared.position.Position.{Position}
 use Rattle.framing.specs.Position.{position_of}
-use Rattle.messaging.specs.declared.Message.TheVariants as message
+use Rattle.messaging.specs.Reading as message
 use Rattle.messaging.specs.Parts.{header, ad_of, frame_of, ad_in, nonce_in, sealed_in, opened_in}
 use Rattle.messaging.specs.Message.{content_answer, message_of, values_of}
 use Rattle.messaging.specs.Read.{or_refused}

@@ -8,14 +8,12 @@ use borrow.Author.Tests.{ne_eqb}
 use lib.ListN.{length, drop, length-drop}
 use lib.Seq.{length-take-le}
 use Rattle.answer.proofs.First.{then_refused}
-use Rattle.sealing.specs.Calls as calls
 use Rattle.sealing.specs.Calls.{written}
-use Rattle.framing.specs.declared.Front.TheVariants.{Whole, Stop}
 use Rattle.framing.specs.Kinds.{is_allowed, max_frame_plaintext}
-use Rattle.framing.specs.Front.{kind_of, sealed_len, taken_of, stop_of, front_of}
+use Rattle.framing.specs.Front.{Whole, Stop, kind_of, sealed_len, taken_of, stop_of, front_of}
 use Rattle.framing.proofs.Fronts.{reason}
 use Rattle.framing.proofs.Whole.{IsWhole, is_whole, whole_bounds}
-use Rattle.messaging.specs.declared.Message.TheVariants.{Refused}
+use Rattle.messaging.specs.Reading.{Refused}
 use Rattle.messaging.specs.Parts.{ad_in, nonce_in, sealed_in, opened_in}
 use Rattle.messaging.specs.Message.{message_of}
 use Rattle.messaging.specs.Read.{or_refused, read_answer, read_of, read_out}

@@ -8,11 +8,9 @@ use lib.IntN.{pos}
 use lib.ListN.{length}
 use Rattle.framing.specs.Kinds as kinds
 use Rattle.framing.specs.Front.{checks}
-use Rattle.messaging.specs.declared.Message.{Message}
-use Rattle.messaging.specs.declared.Message.TheVariants.{Refused}
-use Rattle.messaging.specs.declared.Written.{Written}
+use Rattle.messaging.specs.Reading.{Reading, Refused}
 use Rattle.messaging.specs.Message.{Values, values_of}
-use Rattle.messaging.specs.Write.{write_answer, written_of, write_out, Writes}
+use Rattle.messaging.specs.Write.{Written, write_answer, written_of, write_out, Writes}
 use Rattle.messaging.specs.Read.{read_answer, read_of, read_out, Reads}
 use Rattle.messaging.proofs.Values.{read_value}
 
@@ -42,7 +40,7 @@ module _ (key s out : List ℕ) where
   unfolding read_out
   refused_reading h = rw (ne_eqb (read_answer key s (length out)) 0 h)
 
-  pub call_read_refused : (r : Message) (after : List ℕ) → Reads key s out r after → ((values_of r).answer ≡ 0 → ⊥) → (values_of r ≡ only_answer (values_of r).answer) × (after ≡ out)
+  pub call_read_refused : (r : Reading) (after : List ℕ) → Reads key s out r after → ((values_of r).answer ≡ 0 → ⊥) → (values_of r ≡ only_answer (values_of r).answer) × (after ≡ out)
   call_read_refused r after w h =
       let same : (values_of r).answer ≡ read_answer key s (length out) = ap (λ x. (values_of x).answer) w.answer ∙ read_value key s (length out) in
       let no : read_answer key s (length out) ≡ 0 → ⊥ = λ e. h (same ∙ e) in

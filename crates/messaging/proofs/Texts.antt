@@ -4,11 +4,9 @@ use mathlib.Core.Path.{◌≡◌, refl, sym}
 use mathlib.Core.List.{List}
 use native.Mathlib.Omega.{arith}
 use lib.ListN.{length}
-use Rattle.framing.specs.declared.Front.TheVariants.{Whole}
-use Rattle.framing.specs.Kinds as kinds
 use Rattle.framing.specs.Kinds.{max_frame_plaintext}
-use Rattle.framing.specs.Front.{kind_of, taken_of, front_of}
-use Rattle.messaging.specs.declared.Message.TheVariants as message
+use Rattle.framing.specs.Front.{Whole, kind_of, taken_of, front_of}
+use Rattle.messaging.specs.Reading as message
 use Rattle.messaging.specs.Message.{message_of}
 use Rattle.messaging.specs.Parts.{opened_in}
 use Rattle.messaging.specs.Read.{read_answer, read_of}

@@ -16,9 +16,8 @@ use Rattle.sealing.specs.Calls.{written}
 use Rattle.sealing.proofs.Done.{Openable, open_done, openable}
 use Rattle.rfc8452.specs.Siv.{sealed, opened, authentic}
 use Rattle.sealing.specs.Siv.{open_answer}
-use Rattle.framing.specs.declared.Front.TheVariants.{Whole}
 use Rattle.framing.specs.Kinds.{is_known, is_allowed, max_frame_plaintext}
-use Rattle.framing.specs.Front.{kind_of, sealed_len, taken_of, stop_of, front_of}
+use Rattle.framing.specs.Front.{Whole, kind_of, sealed_len, taken_of, stop_of, front_of}
 use Rattle.framing.proofs.Whole.{IsWhole, is_whole, whole_is, whole_bounds, whole_before, no_reason}
 use Rattle.messaging.specs.Parts.{ad_of, frame_of, ad_in, nonce_in, sealed_in, opened_in}
 use Rattle.messaging.specs.Message.{content_answer, message_of}

@@ -11,8 +11,8 @@ use Rattle.framing.specs.Position.{position_of}
 use Rattle.framing.specs.Kinds as kinds
 use Rattle.framing.specs.Kinds.{table, is_known}
 use Rattle.framing.proofs.Rows.{each_known}
-use Rattle.messaging.specs.declared.Message.{Message}
-use Rattle.messaging.specs.declared.Message.TheVariants as message
+use Rattle.messaging.specs.Reading.{Reading}
+use Rattle.messaging.specs.Reading as message
 use Rattle.messaging.specs.Message.{content_answer, message_of, values_of}
 use Rattle.framing.specs.Front.{kind_of, taken_of}
 use Rattle.messaging.specs.Parts.{opened_in}
@@ -20,14 +20,14 @@ use Rattle.messaging.specs.Read.{or_refused, read_answer, read_of}
 use Rattle.logic.proofs.Tests.{no}
 
 -- a message that is not refused answers 0, and no other does
-pub not_refused : (a : ℕ) (m r : Message) → r ≡ or_refused a m → (values_of r).answer ≡ 0 → (a ≡ 0) × (r ≡ m)
+pub not_refused : (a : ℕ) (m r : Reading) → r ≡ or_refused a m → (values_of r).answer ≡ 0 → (a ≡ 0) × (r ≡ m)
 not_refused a m r e z = by (eqb a 0) refl e
   where
     by : (b : Bool) → eqb a 0 ≡ b → r ≡ cond b m (message.Refused a) → (a ≡ 0) × (r ≡ m)
     by true q p = (eqb-true a 0 q, p)
     by false q p = absurd (eqb-false a 0 q (sym (ap (λ x. (values_of x).answer) p) ∙ z))
 
-refused_value : (a : ℕ) (m : Message) → (values_of m).answer ≡ 0 → (values_of (or_refused a m)).answer ≡ a
+refused_value : (a : ℕ) (m : Reading) → (values_of m).answer ≡ 0 → (values_of (or_refused a m)).answer ≡ a
 refused_value a m e = by (eqb a 0) refl
   where
     by : (b : Bool) → eqb a 0 ≡ b → (values_of (cond b m (message.Refused a))).answer ≡ a
@@ -36,7 +36,7 @@ refused_value a m e = by (eqb a 0) refl
 
 module _ (kind : ℕ) (text : List ℕ) (taken : ℕ) where
   -- a plaintext says one of these: what holds of each holds of it
-  pub said : (P : Message → Type 0) → P (message.Position (position_of text) taken) → P (message.Text (length text) taken) → P (message.CheckIn taken) → P (message_of kind text taken)
+  pub said : (P : Reading → Type 0) → P (message.Position (position_of text) taken) → P (message.Text (length text) taken) → P (message.CheckIn taken) → P (message_of kind text taken)
   said P p t c = by (eqb kind kinds.position) (eqb kind kinds.text)
     where
       by : (a b : Bool) → P (cond a (message.Position (position_of text) taken) (cond b (message.Text (length text) taken) (message.CheckIn taken)))

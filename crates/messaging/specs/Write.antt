@@ -1,13 +1,24 @@
 -- Writing a frame: "10, 11, 13, then sealing" (document 01, "Answers"). Assumes nothing.
-use Rattle.std.specs.Prelude.{ℕ, ◌+◌, ◌-◌, ◌≡◌, cond, not, List, [], ◌∷◌, length, eqb}
+use Rattle.std.specs.Prelude.{ℕ, ◌+◌, ◌-◌, ◌≡◌, cond, not, List, [], ◌∷◌, length, eqb, Result, Ok, Err}
 use Rattle.answer.specs.Answers.{done, unknown_kind, length_for_kind}
+use Rattle.answer.specs.declared.Reason.{Reason}
+use Rattle.answer.specs.Reasons.{number_of}
 use Rattle.answer.specs.First.{◌⇒◌, first, ◌then◌}
 use Rattle.sealing.specs.Calls.{written}
 use Rattle.sealing.specs.Siv.{seal_answer}
 use Rattle.framing.specs.Kinds.{is_known, is_allowed}
-use Rattle.messaging.specs.declared.Written.{Written}
 use Rattle.messaging.specs.Parts.{ad_of, frame_of}
 use Rattle.messaging.specs.Message.{content_answer}
+
+-- what a writing answers: 0 and the bytes written, or why it was refused and none
+pub record Written : Type 0 where
+  pub answer : ℕ
+  pub len : ℕ
+
+-- what code has of it
+abbrev pub written_told : Result ℕ Reason → Written
+written_told (Ok n) = record { answer = done; len = n }
+written_told (Err reason) = record { answer = number_of reason; len = 0 }
 
 -- 10, 11, 13: the kind, the length of what would be sealed, and what the plaintext says
 abbrev pub kind_answer : (kind : ℕ) (text : List ℕ) → ℕ
