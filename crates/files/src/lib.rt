@@ -13,7 +13,7 @@ use std::fs::File;
 use std::io::Write;
 use std::os::fd::AsRawFd;
 use std::rt::Files;
-use std::{io, str};
+use std::{fmt, io, str};
 pub use words::{has_word, word};
 
 // What a key file may have at most, 32 bytes, and a byte more, so that a longer one is told.
@@ -40,13 +40,19 @@ fn written(text: &[u8]) -> &str {
     str::from_utf8(text).unwrap_or("").trim_end_matches('\0')
 }
 
-// Writes a name to standard error. Bytes that are not UTF-8 are shown as the character for that.
-fn put_name<R: Eprint>(rt: &R, path: &[u8]) {
-    for part in path.utf8_chunks() {
-        let _ = eprint!(rt; "{}", part.valid());
-        if !part.invalid().is_empty() {
-            let _ = eprint!(rt; "\u{fffd}");
+// A file's name as it is shown: bytes that are not UTF-8 as the character for that.
+#[derive(Drop)]
+struct Shown<'a>(&'a [u8]);
+
+impl fmt::Display for Shown<'_> {
+    fn fmt<W: fmt::Write>(&self, f: &mut fmt::Formatter<W>) -> fmt::Result {
+        for part in self.0.utf8_chunks() {
+            f.write_str(part.valid())?;
+            if !part.invalid().is_empty() {
+                f.write_char(char::REPLACEMENT_CHARACTER)?;
+            }
         }
+        Ok(())
     }
 }
 
@@ -55,8 +61,7 @@ pub fn fail<R: Eprint>(rt: &R, path: &[u8], error: io::Error) {
     let mut text = io::Cursor::new([0u8; 256]);
     let _ = write!(text, "{error}");
     let why = reason(written(text.get_ref()));
-    put_name(rt, path);
-    let _ = eprintln!(rt; ": {why}");
+    let _ = eprintln!(rt; "{}: {why}", Shown(path));
 }
 
 // The file at path, opened for reading. std opens no name that is not UTF-8.
