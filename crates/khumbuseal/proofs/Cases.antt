@@ -7,9 +7,9 @@ use lib.IntN.{pos, negsuc}
 use Rattle.octets.specs.Numbers.{number, bytes_of}
 use Rattle.feeding.specs.declared.Hash.{Hash}
 use Rattle.feeding.specs.declared.Route.TheVariants.{Wide, Narrow, Rf}
-use Rattle.framing.specs.declared.Front.TheVariants.{Whole, Stop}
+use Rattle.framing.specs.Front.{Whole, Stop}
 use Rattle.ghash.specs.declared.parts.Ghash.{Ghash}
-use Rattle.messaging.specs.declared.Message.TheVariants as message
+use Rattle.messaging.specs.Reading as message
 use Rattle.record.specs.Bytes.{record_bytes}
 use Rattle.khumbuseal.specs.Cells.{stored, yes_or_no}
 use Rattle.khumbuseal.specs.Hashing.{route_of, Stores, Joins}

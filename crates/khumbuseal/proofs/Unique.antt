@@ -37,6 +37,8 @@ use Rattle.khumbuseal.proofs.frames.khumbuseal_frame_write.Kinds as frame_write_
 use Rattle.khumbuseal.proofs.frames.khumbuseal_frame_write.Reads as frame_write_reads
 use Rattle.khumbuseal.proofs.frames.khumbuseal_frame_read.Kinds as frame_read_kinds
 use Rattle.khumbuseal.proofs.frames.khumbuseal_frame_read.Reads as frame_read_reads
+use Rattle.khumbuseal.proofs.frames.MessageCellsFromResultMessageReason.from.Kinds as cells_kinds
+use Rattle.khumbuseal.proofs.frames.MessageCellsFromResultMessageReason.from.Reads as cells_reads
 use Rattle.khumbuseal.proofs.frames.khumbuseal_frame_front.Kinds as frame_front_kinds
 use Rattle.khumbuseal.proofs.frames.khumbuseal_frame_front.Reads as frame_front_reads
 use Rattle.khumbuseal.proofs.frames.khumbuseal_scan.Kinds as scan_kinds
@@ -110,3 +112,7 @@ position_from_bytes_unique κs a x y e f p q = λ i. (((sym p ∙ q) i).lat, ((s
 
 pub position_is_in_range_unique : Unique 0 position_is_in_range_kinds.ps position_is_in_range_kinds.r position_is_in_range_reads.Post
 position_is_in_range_unique κs a x y e f p q = p ∙ sym q
+
+-- and what a reading found has its cells
+pub cells_unique : Unique 0 cells_kinds.ps cells_kinds.r cells_reads.Post
+cells_unique κs a x y e f p q = p ∙ sym q

@@ -1,7 +1,7 @@
 -- What GHASH leaves in a C caller's cells. Assumes nothing.
 use Rattle.std.specs.Prelude.{ℕ, ◌≡◌, List, ◌++◌}
 use Rattle.ghash.specs.declared.parts.Ghash.{Ghash}
-use Rattle.ghash.specs.declared.parts.Started.{Started}
+use Rattle.ghash.specs.Calls.{Started}
 use Rattle.record.specs.Bytes.{element_bytes, element_at}
 use Rattle.khumbuseal.specs.Cells.{stored}
 

@@ -2,8 +2,7 @@
 use Rattle.std.specs.Prelude.{ℕ, ◌≡◌, cond, List, eqb}
 use Rattle.feeding.specs.declared.Route.{Route}
 use Rattle.feeding.specs.declared.Route.TheVariants.{Wide, Narrow, Rf}
-use Rattle.feeding.specs.declared.Fed.{Fed}
-use Rattle.feeding.specs.declared.Joined.{Joined}
+use Rattle.feeding.specs.Answers.{FedAnswer, JoinAnswer}
 use Rattle.record.specs.Bytes.{record_bytes}
 use Rattle.khumbuseal.specs.Cells.{stored}
 
@@ -12,13 +11,13 @@ abbrev pub route_of : ℕ → Route
 route_of n = cond (eqb n 1) Narrow (cond (eqb n 2) Rf Wide)
 
 -- a call that makes a record: its result, the record's bytes after it, and the multiplies
-pub record Stores (made : Fed) (before : List ℕ) (r : ℕ) (after : List ℕ) (multiplies : ℕ) : Type 0 where
+pub record Stores (made : FedAnswer) (before : List ℕ) (r : ℕ) (after : List ℕ) (multiplies : ℕ) : Type 0 where
   pub answer : r ≡ made.answer
   pub memory : after ≡ stored made.answer (record_bytes made.hash) before
   pub count : multiplies ≡ made.multiplies
 
 -- joining: the same, with its dots
-pub record Joins (made : Joined) (before : List ℕ) (r : ℕ) (after : List ℕ) (dots : ℕ) : Type 0 where
+pub record Joins (made : JoinAnswer) (before : List ℕ) (r : ℕ) (after : List ℕ) (dots : ℕ) : Type 0 where
   pub answer : r ≡ made.answer
   pub memory : after ≡ stored made.answer (record_bytes made.hash) before
   pub count : dots ≡ made.dots

@@ -1,16 +1,18 @@
-// Frames, positions and the scan for C. Assumes nothing.
-ghost use Rattle.std.specs.Prelude.{◌≡◌, pos, length};
+// Frames, positions and the scan for C, to which go kinds and reasons as numbers. Assumes nothing.
+ghost use Rattle.std.specs.Prelude.{◌≡◌, length};
 ghost use Rattle.framing.specs.Front.{front_of};
 ghost use Rattle.framing.specs.Position.{position_of, position_bytes, in_range};
 ghost use Rattle.framing.specs.Scan.{scan_of};
+ghost use Rattle.messaging.specs.Reading.{reading_told};
 ghost use Rattle.messaging.specs.Message.{values_of};
 ghost use Rattle.messaging.specs.Write.{Writes};
 ghost use Rattle.messaging.specs.Read.{read_of, read_out};
 ghost use Rattle.khumbuseal.specs.Cells.{yes_or_no};
 ghost use Rattle.khumbuseal.specs.Frames.{front_cells, message_cells};
 
+use answer::Reason;
+use framing::kind::Kind;
 use framing::position::Position;
-use framing::{Front, kind};
 use messaging::Message;
 
 // Writes a frame of this kind, sealed, to the front of out, and how many bytes it has.
@@ -26,34 +28,8 @@ pub extern "C" fn khumbuseal_frame_write(
     ensures { Writes kind key.now nonce.now plaintext.now out.old (record { answer = result; len = written.new }) out.new }
 {
     let made = message::write(kind, key, nonce, plaintext, out);
-    *written = made.len;
-    made.answer
-}
-
-// The case of a front as three numbers.
-#[derive(Clone, Copy)]
-pub struct FrontCells {
-    pub answer: u8,
-    pub kind: u8,
-    pub taken: usize,
-}
-
-// A whole frame's kind and bytes, or the reason with zeros.
-fn flattened(front: Front) -> FrontCells
-    ensures { result ≡ front_cells front }
-{
-    match front {
-        Front::Whole { kind, taken } => FrontCells {
-            answer: answer::DONE,
-            kind,
-            taken,
-        },
-        Front::Stop(reason) => FrontCells {
-            answer: reason,
-            kind: 0,
-            taken: 0,
-        },
-    }
+    *written = made.unwrap_or(0);
+    answer::number(&made)
 }
 
 // What stands at the front of s: the kind of a whole frame and its bytes, or why there is none.
@@ -61,13 +37,15 @@ fn flattened(front: Front) -> FrontCells
 pub extern "C" fn khumbuseal_frame_front(s: &[u8], kind: &mut u8, taken: &mut usize) -> u8
     ensures { front_cells (front_of s.now) ≡ record { answer = result; kind = kind.new; taken = taken.new } }
 {
-    let front = flattened(frame::front_of(s));
-    *kind = front.kind;
-    *taken = front.taken;
-    front.answer
+    let front = frame::front_of(s);
+    (*kind, *taken) = match front {
+        Ok(whole) => (u8::from(whole.kind), whole.taken),
+        Err(_) => (0, 0),
+    };
+    answer::number(&front)
 }
 
-// The case of a message as eight numbers.
+// What a reading found, as a C caller's cells have it: the answer, the kind and the values, and zero where it has none.
 #[derive(Clone, Copy)]
 pub struct MessageCells {
     pub answer: u8,
@@ -80,40 +58,43 @@ pub struct MessageCells {
     pub taken: usize,
 }
 
-// A case that has no position.
-fn placeless(answer: u8, kind: u8, len: usize, taken: usize) -> MessageCells
-    ensures { result ≡ record { answer = answer; kind = kind; lat = pos 0; lon = pos 0; alt = pos 0; time = 0; len = len; taken = taken } }
-{
-    MessageCells {
-        answer,
-        kind,
-        lat: 0,
-        lon: 0,
-        alt: 0,
-        time: 0,
-        len,
-        taken,
-    }
-}
+impl From<Result<Message, Reason>> for MessageCells {
+    ghost from_gives = { λ read cells. cells ≡ message_cells (reading_told read) };
 
-// Each case's number and values, and zero where it has none.
-fn cells_of(m: Message) -> MessageCells
-    ensures { result ≡ message_cells m }
-{
-    match m {
-        Message::Position { position, taken } => MessageCells {
-            answer: answer::DONE,
-            kind: kind::POSITION,
-            lat: position.lat,
-            lon: position.lon,
-            alt: position.alt,
-            time: position.time,
+    fn from(read: Result<Message, Reason>) -> MessageCells {
+        let none = MessageCells {
+            answer: answer::number(&read),
+            kind: 0,
+            lat: 0,
+            lon: 0,
+            alt: 0,
+            time: 0,
             len: 0,
-            taken,
-        },
-        Message::Text { len, taken } => placeless(answer::DONE, kind::TEXT, len, taken),
-        Message::CheckIn { taken } => placeless(answer::DONE, kind::CHECK_IN, 0, taken),
-        Message::Refused(reason) => placeless(reason, 0, 0, 0),
+            taken: 0,
+        };
+        match read {
+            Ok(Message::Position { position, taken }) => MessageCells {
+                kind: u8::from(Kind::Position),
+                lat: position.lat,
+                lon: position.lon,
+                alt: position.alt,
+                time: position.time,
+                taken,
+                ..none
+            },
+            Ok(Message::Text { len, taken }) => MessageCells {
+                kind: u8::from(Kind::Text),
+                len,
+                taken,
+                ..none
+            },
+            Ok(Message::CheckIn { taken }) => MessageCells {
+                kind: u8::from(Kind::CheckIn),
+                taken,
+                ..none
+            },
+            Err(_) => none,
+        }
     }
 }
 
@@ -134,16 +115,13 @@ pub extern "C" fn khumbuseal_frame_read(
     ensures cells { values_of (read_of key.now s.now (length out.old)) ≡ record { answer = result; kind = kind.new; lat = lat.new; lon = lon.new; alt = alt.new; time = time.new; len = len.new; taken = taken.new } }
     ensures memory { out.new ≡ read_out key.now s.now out.old }
 {
-    let found = cells_of(message::read(key, s, out));
-    let a = found.lat;
-    let o = found.lon;
-    let h = found.alt;
+    let found = MessageCells::from(message::read(key, s, out));
     *kind = found.kind;
     *len = found.len;
     *taken = found.taken;
-    *lat = a;
-    *lon = o;
-    *alt = h;
+    *lat = found.lat;
+    *lon = found.lon;
+    *alt = found.alt;
     *time = found.time;
     found.answer
 }
@@ -153,20 +131,10 @@ pub extern "C" fn khumbuseal_frame_read(
 pub extern "C" fn khumbuseal_scan(log: &[u8], frames: &mut u64, stop: &mut u8) -> usize
     ensures { scan_of log.now ≡ record { taken = result; frames = frames.new; stop = stop.new } }
 {
-    let part = frame::scan(log, frames, stop);
-    part.len()
-}
-
-// The position with these fields.
-fn position_at(a: i32, o: i32, h: i32, t: u32) -> Position
-    ensures { result ≡ record { lat = a; lon = o; alt = h; time = t } }
-{
-    Position {
-        lat: a,
-        lon: o,
-        alt: h,
-        time: t,
-    }
+    let found = frame::scan(log);
+    *frames = found.frames;
+    *stop = answer::number(&found.stop);
+    found.prefix.len()
 }
 
 // The sixteen bytes of a position, in range or not.
@@ -180,8 +148,12 @@ pub extern "C" fn khumbuseal_position_to_bytes(
 )
     ensures { bytes.new ≡ position_bytes (record { lat = lat; lon = lon; alt = alt; time = time }) }
 {
-    let spelled = frame::position::to_bytes(position_at(lat, lon, alt, time));
-    *bytes = spelled;
+    *bytes = frame::position::to_bytes(Position {
+        lat,
+        lon,
+        alt,
+        time,
+    });
 }
 
 // The position that sixteen bytes spell, in range or not.
@@ -196,12 +168,9 @@ pub extern "C" fn khumbuseal_position_from_bytes(
     ensures { position_of bytes.now ≡ record { lat = lat.new; lon = lon.new; alt = alt.new; time = time.new } }
 {
     let p = frame::position::from_bytes(*bytes);
-    let a = p.lat;
-    let o = p.lon;
-    let h = p.alt;
-    *lat = a;
-    *lon = o;
-    *alt = h;
+    *lat = p.lat;
+    *lon = p.lon;
+    *alt = p.alt;
     *time = p.time;
 }
 
@@ -210,9 +179,11 @@ pub extern "C" fn khumbuseal_position_from_bytes(
 pub extern "C" fn khumbuseal_position_is_in_range(lat: i32, lon: i32, alt: i32) -> u8
     ensures { result ≡ yes_or_no (in_range (record { lat = lat; lon = lon; alt = alt; time = 0 })) }
 {
-    if frame::position::is_in_range(position_at(lat, lon, alt, 0)) {
-        1
-    } else {
-        0
-    }
+    let position = Position {
+        lat,
+        lon,
+        alt,
+        time: 0,
+    };
+    u8::from(frame::position::is_in_range(position))
 }

@@ -1,6 +1,6 @@
 // GHASH for C: its record as 32 bytes, POLYVAL's key for GHASH's and the sum. Any bytes are one. Assumes
 // nothing.
-ghost use Rattle.std.specs.Prelude.{◌≡◌, ◌++◌};
+ghost use Rattle.std.specs.Prelude.{◌≡◌};
 ghost use Rattle.ghash.specs.Calls.{ghash_start_of, fed_of, ghash_tag_of, hashed_of};
 ghost use Rattle.khumbuseal.specs.Ghashing.{ghash_bytes, ghash_in, Begins};
 
@@ -10,32 +10,21 @@ use polyval::block;
 // The bytes of a GHASH record: two elements.
 const GHASH_SIZE: usize = 32;
 
-// Sixteen bytes with sixteen behind them.
-fn joined(a: [u8; 16], b: [u8; 16]) -> [u8; GHASH_SIZE]
-    ensures { result ≡ a ++ b }
+// Writes the record as bytes.
+fn encode(g: Ghash, cell: &mut [u8; GHASH_SIZE])
+    ensures { cell.new ≡ ghash_bytes g }
 {
-    let mut out = [0u8; GHASH_SIZE];
-    let next = octets::put(&mut out, 0, &a);
-    octets::put(&mut out, next, &b);
-    out
-}
-
-// The record as bytes.
-fn encoded(g: Ghash) -> [u8; GHASH_SIZE]
-    ensures { result ≡ ghash_bytes g }
-{
-    let key = g.key;
-    let acc = g.acc;
-    joined(key.to_bytes(), acc.to_bytes())
+    cell.copy_from_slice([g.key.to_bytes(), g.acc.to_bytes()].as_flattened());
 }
 
 // The record that the bytes spell.
-fn decoded(b: [u8; GHASH_SIZE]) -> Ghash
-    ensures { result ≡ ghash_in b }
+fn decode(b: &[u8; GHASH_SIZE]) -> Ghash
+    ensures { result ≡ ghash_in b.now }
 {
-    let key = block::block_at(&b, 0);
-    let acc = block::block_at(&b, 16);
-    Ghash { key, acc }
+    Ghash {
+        key: block::block_of(b),
+        acc: block::block_of(&b[16..]),
+    }
 }
 
 // The hash of whole blocks under a key of 16 bytes.
@@ -44,9 +33,8 @@ pub extern "C" fn khumbuseal_ghash(key: &[u8], s: &[u8], tag: &mut [u8; 16]) -> 
     ensures { hashed_of key.now s.now ≡ record { answer = result; tag = tag.new } }
 {
     let hashed = ghash::ghash(key, s);
-    let bytes = hashed.tag;
-    *tag = bytes;
-    hashed.answer
+    *tag = hashed.unwrap_or([0; 16]);
+    answer::number(&hashed)
 }
 
 // Makes a record under a key of 16 bytes.
@@ -55,11 +43,10 @@ pub extern "C" fn khumbuseal_ghash_start(cell: &mut [u8; GHASH_SIZE], key: &[u8]
     ensures { Begins (ghash_start_of key.now) cell.old result cell.new }
 {
     let started = Ghash::start(key);
-    if started.answer == answer::DONE {
-        let bytes = encoded(started.ghash);
-        *cell = bytes;
+    if let Ok(begun) = started {
+        encode(begun, cell);
     }
-    started.answer
+    answer::number(&started)
 }
 
 // Feeds blocks of which the last may be short, and is filled with zeros.
@@ -67,10 +54,8 @@ pub extern "C" fn khumbuseal_ghash_start(cell: &mut [u8; GHASH_SIZE], key: &[u8]
 pub extern "C" fn khumbuseal_ghash_feed_padded(cell: &mut [u8; GHASH_SIZE], s: &[u8])
     ensures { cell.new ≡ ghash_bytes (fed_of (ghash_in cell.old) s.now) }
 {
-    let g = decoded(*cell);
-    let fed = g.feed_padded(s);
-    let fed_bytes = encoded(fed);
-    *cell = fed_bytes;
+    let g = decode(cell);
+    encode(g.feed_padded(s), cell);
 }
 
 // The hash of all that was fed. The record is as it was.
@@ -78,6 +63,5 @@ pub extern "C" fn khumbuseal_ghash_feed_padded(cell: &mut [u8; GHASH_SIZE], s: &
 pub extern "C" fn khumbuseal_ghash_finish(cell: &[u8; GHASH_SIZE], tag: &mut [u8; 16])
     ensures { tag.new ≡ ghash_tag_of (ghash_in cell.now) }
 {
-    let hash = decoded(*cell).finish();
-    *tag = hash;
+    *tag = decode(cell).finish();
 }

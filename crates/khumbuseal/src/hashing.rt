@@ -4,15 +4,17 @@ ghost use Rattle.std.specs.Prelude.{◌≡◌};
 ghost use Rattle.feeding.specs.Key.{check_of};
 ghost use Rattle.feeding.specs.Calls.{start_of, whole_of, padded_of, piece_of, finish_of, reset_of};
 ghost use Rattle.feeding.specs.Join.{join_of};
+ghost use Rattle.feeding.specs.Told.{fed_told};
 ghost use Rattle.record.specs.Bytes.{record_of, record_bytes};
-ghost use Rattle.khumbuseal.specs.Cells.{yes_or_no, stored};
+ghost use Rattle.khumbuseal.specs.Cells.{yes_or_no};
 ghost use Rattle.khumbuseal.specs.Hashing.{route_of, Stores, Joins};
 
-use feeding::{Hash, Route};
+use answer::Reason;
+use feeding::{Fed, Finished, Route};
 use polyval::key;
 use record::RECORD_SIZE;
 
-// The numbers of two routes; any other is the wide one.
+// The numbers of two routes, as C has them (include/khumbuseal.h); any other is the wide one.
 const NARROW: u8 = 1;
 
 const RF: u8 = 2;
@@ -28,14 +30,17 @@ fn route_of(number: u8) -> Route
     }
 }
 
-// The record that a call made goes to its cell where the answer is 0.
-fn store(answer: u8, made: Hash, cell: &mut [u8; RECORD_SIZE])
-    ensures { cell.new ≡ stored answer (record_bytes made) cell.old }
+// What a call on a record leaves to C: the record that it made, in its cell, and what it spent; the cell as it was
+// and 0 where it refused.
+fn store(fed: Result<Fed, Reason>, cell: &mut [u8; RECORD_SIZE], multiplies: &mut u64) -> u8
+    ensures { Stores (fed_told fed) cell.old result cell.new multiplies.new }
 {
-    if answer == answer::DONE {
-        let bytes = record::encode(made);
-        *cell = bytes;
+    *multiplies = 0;
+    if let Ok(made) = fed {
+        *cell = record::encode(made.hash);
+        *multiplies = made.multiplies;
     }
+    answer::number(&fed)
 }
 
 // Makes a record under a key of 16 bytes.
@@ -48,9 +53,7 @@ pub extern "C" fn khumbuseal_hash_start(
     ensures { Stores (start_of key.now) cell.old result cell.new multiplies.new }
 {
     let started = hash::start(key);
-    *multiplies = started.multiplies;
-    store(started.answer, started.hash, cell);
-    started.answer
+    store(started, cell, multiplies)
 }
 
 // Feeds whole blocks.
@@ -64,9 +67,7 @@ pub extern "C" fn khumbuseal_hash_feed_blocks(
     ensures { Stores (whole_of (route_of route) (record_of cell.old) s.now) cell.old result cell.new multiplies.new }
 {
     let whole = hash::feed_blocks(record::decode(*cell), route_of(route), s);
-    *multiplies = whole.multiplies;
-    store(whole.answer, whole.hash, cell);
-    whole.answer
+    store(whole, cell, multiplies)
 }
 
 // Feeds blocks of which the last may be short, and is filled with zeros.
@@ -80,9 +81,7 @@ pub extern "C" fn khumbuseal_hash_feed_padded(
     ensures { Stores (padded_of (route_of route) (record_of cell.old) s.now) cell.old result cell.new multiplies.new }
 {
     let padded = hash::feed_padded(record::decode(*cell), route_of(route), s);
-    *multiplies = padded.multiplies;
-    store(padded.answer, padded.hash, cell);
-    padded.answer
+    store(padded, cell, multiplies)
 }
 
 // Feeds any bytes: what does not fill a block waits in the record.
@@ -96,9 +95,7 @@ pub extern "C" fn khumbuseal_hash_feed_piece(
     ensures { Stores (piece_of (route_of route) (record_of cell.old) s.now) cell.old result cell.new multiplies.new }
 {
     let piece = hash::feed_piece(record::decode(*cell), route_of(route), s);
-    *multiplies = piece.multiplies;
-    store(piece.answer, piece.hash, cell);
-    piece.answer
+    store(piece, cell, multiplies)
 }
 
 // The tag of all that was fed. The record is as it was.
@@ -112,10 +109,14 @@ pub extern "C" fn khumbuseal_hash_finish(
     ensures { finish_of (route_of route) (record_of cell.now) ≡ record { answer = result; tag = tag.new; multiplies = multiplies.new } }
 {
     let finished = hash::finish(record::decode(*cell), route_of(route));
-    let bytes = finished.tag;
+    let told = finished.unwrap_or(Finished {
+        tag: [0; 16],
+        multiplies: 0,
+    });
+    let bytes = told.tag;
     *tag = bytes;
-    *multiplies = finished.multiplies;
-    finished.answer
+    *multiplies = told.multiplies;
+    answer::number(&finished)
 }
 
 // The same key, with nothing absorbed and nothing pending. It spends nothing.
@@ -124,8 +125,8 @@ pub extern "C" fn khumbuseal_hash_reset(cell: &mut [u8; RECORD_SIZE]) -> u8
     ensures { Stores (reset_of (record_of cell.old)) cell.old result cell.new 0 }
 {
     let cleared = hash::reset(record::decode(*cell));
-    store(cleared.answer, cleared.hash, cell);
-    cleared.answer
+    let mut spent = 0;
+    store(cleared, cell, &mut spent)
 }
 
 // The first record becomes that of both parts, of which the second has so many blocks.
@@ -139,9 +140,11 @@ pub extern "C" fn khumbuseal_hash_join(
     ensures { Joins (join_of (record_of first.old) (record_of second.now) blocks) first.old result first.new dots.new }
 {
     let joined = join::join(record::decode(*first), record::decode(*second), blocks);
-    *dots = joined.dots;
-    store(joined.answer, joined.hash, first);
-    joined.answer
+    let made = joined.map(|both| Fed {
+        hash: both.hash,
+        multiplies: both.dots,
+    });
+    store(made, first, dots)
 }
 
 // Whether every stored power and D value belongs to the stored H: 1 or 0.
@@ -149,9 +152,5 @@ pub extern "C" fn khumbuseal_hash_join(
 pub extern "C" fn khumbuseal_hash_key_belongs(cell: &[u8; RECORD_SIZE]) -> u8
     ensures { result ≡ yes_or_no (check_of (record_of cell.now).key) }
 {
-    if key::check(record::decode(*cell).key) {
-        1
-    } else {
-        0
-    }
+    u8::from(key::check(record::decode(*cell).key))
 }

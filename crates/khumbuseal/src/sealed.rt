@@ -12,7 +12,7 @@ pub extern "C" fn khumbuseal_seal(
 ) -> u8
     ensures { Seals key.now nonce.now ad.now plaintext.now out.old result out.new }
 {
-    siv::seal(key, nonce, ad, plaintext, out)
+    answer::number(&siv::seal(key, nonce, ad, plaintext, out))
 }
 
 // Opens a sealed part: out gets the plaintext, once the tag has agreed.
@@ -26,5 +26,5 @@ pub extern "C" fn khumbuseal_open(
 ) -> u8
     ensures { Opens key.now nonce.now ad.now sealed.now out.old result out.new }
 {
-    siv::open(key, nonce, ad, sealed, out)
+    answer::number(&siv::open(key, nonce, ad, sealed, out))
 }
