@@ -25,9 +25,8 @@ loop-i-init c =
 pub loop-i-preserved : goal.loop-i-preserved
 loop-i-preserved c =
     let l = c.loop-i in
-    let start = c in
-    let h = start.args.h in
-    let sized : Sized h = record { lo = omega (arith, start.well_formed); hi = omega (arith, start.well_formed) } in
+    let h = c.args.h in
+    let sized : Sized h = record { lo = omega (arith, c.well_formed); hi = omega (arith, c.well_formed) } in
     let d = c.companion-first in
     let j : ℕ = l.i - 1 in
     let j-next : l.i ≡ suc j = omega (arith, l.auto.i) in
