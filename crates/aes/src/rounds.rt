@@ -13,33 +13,24 @@ use crate::Schedule;
 // A word for each column of the state, its row 0 in the lowest byte.
 type State = [u32; 4];
 
-// The word of four bytes of s from i on.
-fn word_at(s: &[u8], i: usize) -> u32
-    requires { i + 4 ≤ length s.now }
-    ensures { bytes_of 4 result ≡ tab 4 (λ j. get_or s.now (i + j) 0) }
+// The state that a block is, or a round key.
+fn load(block: &[u8; 16]) -> State
+    ensures { state_of result ≡ block.now }
 {
-    u32::from_le_bytes([s[i], s[i + 1], s[i + 2], s[i + 3]])
-}
-
-// The 16 bytes of s from i on: a block, or a round key.
-fn load(s: &[u8], i: usize) -> State
-    requires { i + 16 ≤ length s.now }
-    ensures { state_of result ≡ tab 16 (λ j. get_or s.now (i + j) 0) }
-{
+    let (words, _) = block.as_chunks();
     [
-        word_at(s, i),
-        word_at(s, i + 4),
-        word_at(s, i + 8),
-        word_at(s, i + 12),
+        u32::from_le_bytes(words[0]),
+        u32::from_le_bytes(words[1]),
+        u32::from_le_bytes(words[2]),
+        u32::from_le_bytes(words[3]),
     ]
 }
 
-// The state plus the round key of round r.
-fn add_round_key(s: State, w: &[u8], r: usize) -> State
-    requires { 16 * r + 16 ≤ length w.now }
-    ensures { state_of result ≡ fips.add_round_key (state_of s) w.now r }
+// The state plus a round key.
+fn add_round_key(s: State, key: &[u8; 16]) -> State
+    ensures { state_of result ≡ fips.add_round_key (state_of s) key.now 0 }
 {
-    let k = load(w, 16 * r);
+    let k = load(key);
     [s[0] ^ k[0], s[1] ^ k[1], s[2] ^ k[2], s[3] ^ k[3]]
 }
 
@@ -47,14 +38,13 @@ fn add_round_key(s: State, w: &[u8], r: usize) -> State
 fn to_block(s: State) -> [u8; 16]
     ensures { result ≡ state_of s }
 {
-    let a = s[0].to_le_bytes();
-    let b = s[1].to_le_bytes();
-    let c = s[2].to_le_bytes();
-    let d = s[3].to_le_bytes();
-    [
-        a[0], a[1], a[2], a[3], b[0], b[1], b[2], b[3], c[0], c[1], c[2], c[3], d[0], d[1], d[2],
-        d[3],
-    ]
+    let columns = [
+        s[0].to_le_bytes(),
+        s[1].to_le_bytes(),
+        s[2].to_le_bytes(),
+        s[3].to_le_bytes(),
+    ];
+    *columns.as_flattened().as_array().unwrap()
 }
 
 // The table's word for the lowest byte of x.
@@ -121,12 +111,12 @@ impl<const N: usize> Schedule<N> {
     pub fn encrypt(&self, block: [u8; 16]) -> [u8; 16]
         ensures { result ≡ fips.cipher (N / 16 - 1) self.now.bytes block }
     {
-        let w = &self.bytes;
+        let (keys, _) = self.bytes.as_chunks();
         let last = N / 16 - 1;
-        let mut s = add_round_key(load(&block, 0), w, 0);
-        for r in 1..last {
-            s = add_round_key(columns(s), w, r);
+        let mut s = add_round_key(load(&block), &keys[0]);
+        for key in &keys[1..last] {
+            s = add_round_key(columns(s), key);
         }
-        to_block(add_round_key(last_columns(s), w, last))
+        to_block(add_round_key(last_columns(s), &keys[last]))
     }
 }

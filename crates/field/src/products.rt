@@ -27,15 +27,13 @@ impl FieldElement {
     pub fn dot(self, rhs: FieldElement) -> FieldElement
         ensures { result ≡ element (dot (value self) (value rhs)) }
     {
-        let wide = limbs::mul64::dot(self.into(), rhs.into());
-        wide.into()
+        limbs::mul64::dot(self.into(), rhs.into()).into()
     }
 
     // As dot answers, by 32-bit limbs.
     pub fn dot32(self, rhs: FieldElement) -> FieldElement
         ensures { result ≡ element (dot (value self) (value rhs)) }
     {
-        let narrow = limbs::mul32::dot32(self.into(), rhs.into());
-        narrow.into()
+        limbs::mul32::dot32(self.into(), rhs.into()).into()
     }
 }

@@ -17,6 +17,7 @@ pub(crate) fn allows(row: Row, sealed: usize) -> bool
     row.least <= n && n <= row.most && (n - row.least) % row.step == 0
 }
 
+#[tactic(auto, using(framing::proofs::Told::told_known))]
 pub fn is_known(kind: u8) -> bool
     ensures { result ≡ is_known kind }
 {
@@ -24,6 +25,7 @@ pub fn is_known(kind: u8) -> bool
 }
 
 // Whether a sealed part of this length may stand in a frame of this kind.
+#[tactic(auto, using(framing::proofs::Told::told_steps, framing::proofs::Told::told_allows, framing::proofs::Told::told_none))]
 pub fn is_allowed(kind: u8, sealed: usize) -> bool
     ensures { result ≡ is_allowed kind sealed }
 {

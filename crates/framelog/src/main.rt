@@ -5,42 +5,39 @@
 
 mod length;
 mod lines;
+mod place;
 mod walk;
 
+use files::NamedFile;
 use std::fs::File;
 use std::io::Seek;
 use std::rt::Files;
 
 // Measures the log, then reads it again from its start.
-fn read_log<R: Print + Eprint>(rt: &R, file: &mut File, path: &[u8], key: &[u8]) {
-    let measured = length::measure(rt, file, path);
-    if measured.failed {
-        return;
-    }
-    let len = measured.len;
-    if window::log_answer(len) != answer::DONE {
-        length::put_too_long(rt);
-        return;
-    }
-    if let Err(error) = file.rewind() {
-        files::fail(rt, path, error);
-        return;
-    }
-    walk::walk(rt, file, path, key, len);
-}
-
-// Reads the log at path under the key at key_path.
-fn run<R: Files<File = File> + Print + Eprint>(rt: &R, key_path: &[u8], path: &[u8]) {
-    let mut key = [0u8; files::KEY_ROOM];
-    let got = files::fetch(rt, key_path, &mut key);
-    if got.failed {
-        return;
-    }
-    let n = got.count;
-    let Some(mut file) = files::open(rt, path) else {
+fn read_log<R: Print + Eprint>(rt: &R, file: &mut NamedFile<'_, File>, key: &[u8]) {
+    let Some(len) = length::measure(rt, file) else {
         return;
     };
-    read_log(rt, &mut file, path, &key[..n]);
+    if let Err(why) = window::log_answer(len) {
+        length::put_too_long(rt, why);
+        return;
+    }
+    if let Err(error) = file.file.rewind() {
+        files::fail(rt, file.path, error);
+        return;
+    }
+    walk::walk(rt, file, key, len);
+}
+
+// Reads the log at path under the key at key_path, unless one of them cannot be read.
+fn run<R: Files<File = File> + Print + Eprint>(rt: &R, key_path: &[u8], path: &[u8]) {
+    let mut key = [0; files::KEY_ROOM];
+    let Some(n) = files::fetch(rt, key_path, &mut key) else {
+        return;
+    };
+    if let Some(mut file) = files::open(rt, path) {
+        read_log(rt, &mut file, &key[..n]);
+    }
 }
 
 // Takes the names of both files from the words that the program was started with.
@@ -49,9 +46,9 @@ fn main(rt: HostRuntime) {
         let _ = eprintln!(rt; "usage: framelog KEY LOG");
         return;
     }
-    let mut key_path = [0u8; files::NAME_ROOM];
-    let k = files::word(&rt, 1, &mut key_path);
-    let mut path = [0u8; files::NAME_ROOM];
-    let n = files::word(&rt, 2, &mut path);
-    run(&rt, &key_path[..k], &path[..n]);
+    let mut key_room = [0; files::NAME_ROOM];
+    let key_path = files::word(&rt, 1, &mut key_room);
+    let mut room = [0; files::NAME_ROOM];
+    let path = files::word(&rt, 2, &mut room);
+    run(&rt, key_path, path);
 }

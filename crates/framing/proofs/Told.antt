@@ -10,15 +10,27 @@ use Rattle.std.specs.Prelude.{Option, Some, None, option_map}
 use Rattle.std.specs.Option.{is_some, ok_or}
 use Rattle.std.specs.List.{find}
 use Rattle.framing.specs.declared.kind.Kind.{Kind}
+use Rattle.framing.specs.declared.kind.Kind.TheVariants.{Position, Text, CheckIn}
 use Rattle.framing.specs.declared.kind.Row.{Row}
 use Rattle.framing.specs.Kinds.{TableRow, kind_number, KindFor, row_told, table, find_in, row_of, known, allows, is_known, is_allowed}
 use Rattle.std.specs.Prelude.{Result, Ok, Err}
 use Rattle.answer.specs.declared.Reason.{Reason}
+use Rattle.answer.specs.declared.Reason.TheVariants.{NotAFrame, CutShort}
 use Rattle.answer.specs.Reasons.{answer_of}
 use Rattle.answer.proofs.Reasons.{never_done, one_reason}
 use Rattle.framing.specs.declared.Extent.{Extent}
-use Rattle.framing.specs.Front.{front_told}
-use Rattle.framing.proofs.Rows.{row_known, row_unknown, row_steps}
+use Rattle.framing.specs.Front.{Whole, Stop, front_told}
+use Rattle.framing.proofs.Rows.{row_known, row_unknown, row_steps, none_allows}
+
+-- by literal: each kind's number, a row, fronts
+pub told_kinds : (kind_number Position ≡ 1) × (kind_number Text ≡ 2) × (kind_number CheckIn ≡ 3)
+told_kinds = (refl, refl, refl)
+
+pub told_rows : row_told (record { kind = Text; least = 5; most = 9; step = 2 }) ≡ record { number = 2; least = 5; most = 9; step = 2 }
+told_rows = refl
+
+pub told_fronts : (front_told (Ok (record { kind = Text; taken = 33 })) ≡ Whole 2 33) × (front_told (Err NotAFrame) ≡ Stop 9) × (front_told (Err CutShort) ≡ Stop 12)
+told_fronts = (refl, refl, refl)
 
 -- where a search that found nothing is an error, and where it is none
 pub found_none : {T E : Type 0} (found : Option T) (e f : E) → ok_or found e ≡ Err f → (found ≡ None) × (f ≡ e)
@@ -76,6 +88,9 @@ module _ (number : ℕ) (found : Option Row) (e : option_map row_told found ≡ 
 
   pub none_found : found ≡ None → is_known number ≡ false
   none_found f = row_unknown number (sym e ∙ ap (option_map row_told) f)
+
+  pub told_none : found ≡ None → (n : ℕ) → is_allowed number n ≡ false
+  told_none f n = none_allows number n (sym e ∙ ap (option_map row_told) f)
 
   pub told_known : is_some found ≡ is_known number
   unfolding is_known

@@ -1,30 +1,14 @@
 -- Bytes kept at the front of a block of zeros, and a message cut where its pending bytes fill a block. Assumes nothing.
-use mathlib.Core.Path.{◌≡◌, sym, ap, ap₂, ◌∙◌}
+use mathlib.Core.Path.{◌≡◌, sym, ap, ◌∙◌}
 use mathlib.Core.List.{List, [], ◌++◌, append_assoc, append-nil}
-use Prim.Native.Nat.{ℕ, ◌+◌, ◌-◌, ◌*◌, ◌/◌, ◌%◌, ◌≤◌, ◌<◌, min}
-use native.Mathlib.Nat.{min-eq_left}
+use Prim.Native.Nat.{ℕ, ◌+◌, ◌-◌, ◌*◌, ◌/◌, ◌%◌, ◌≤◌, ◌<◌}
 use native.Mathlib.Omega.{arith}
 use lib.ListN.{length, take, drop, replicate, length-append}
-use lib.Seq.{paste, take_all, take_at, take-add, take-append-add, drop-append-add, length-take-le}
+use lib.Seq.{take_at, take-add, take-append-add, drop-append-add, length-take-le}
 use Rattle.rfc8452.specs.Blocks.{blocks}
-use Rattle.rfc8452.proofs.Cut.{blocks_++, pasted_zeros}
-use Rattle.octets.proofs.Parts.{drop_zeros}
+use Rattle.rfc8452.proofs.Cut.{blocks_++}
 use Rattle.feeding.specs.Record.{filled}
 use Rattle.feeding.specs.Calls.{whole_part, short_part}
-
--- t at the front of zeros, then s behind it
-pub kept_law : (t s : List ℕ) (n : ℕ) → length t ≡ n → n + length s ≤ 16
-    → paste (paste (replicate 16 0) 0 t (min (length t) (16 - 0))) n s (min (length s) (16 - n)) ≡ filled (t ++ s)
-kept_law t s n e room =
-    let first : paste (replicate 16 0) 0 t (min (length t) (16 - 0)) ≡ filled t =
-    pasted_zeros t ∙ ap filled (take_all 16 t (omega arith)) in
-    let m : min (length s) (16 - n) ≡ length s = min-eq_left (omega arith) in
-    let behind : 16 - n - length s ≡ 16 - length (t ++ s) = omega (arith, length-append t s) in
-    ap₂ (λ d k. paste d n s k) first m
-    ∙ ap₂ ◌++◌
-    (ap₂ ◌++◌ (take_at t (replicate (16 - length t) 0) n e) (take_all (length s) s (omega arith)))
-    (ap (λ k. drop (k + length s) (filled t)) (sym e) ∙ drop-append-add t (replicate (16 - length t) 0) (length s)
-    ∙ drop_zeros (length s) (16 - length t) ∙ ap (λ k. replicate {A = ℕ} k 0) (ap (λ k. 16 - k - length s) e ∙ behind))
 
 -- a block that is full
 pub filled_full : (t : List ℕ) → length t ≡ 16 → filled t ≡ t

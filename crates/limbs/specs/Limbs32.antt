@@ -1,5 +1,5 @@
 -- The lists of words of mul32, the low word first, and what each of its steps answers. Assumes nothing.
-use Rattle.std.specs.Prelude.{ℕ, ◌+◌, ◌*◌, ◌/◌, ◌%◌, ◌^◌, List, [], ◌∷◌, slice_index}
+use Rattle.std.specs.Prelude.{ℕ, ◌+◌, ◌*◌, ◌/◌, ◌%◌, ◌^◌, List, [], ◌∷◌, get_or}
 use Rattle.octets.specs.Xor.{◌⊕◌}
 use Rattle.gf2.specs.Carryless.{clmul}
 use Rattle.gf2.specs.Words.{word_at}
@@ -31,8 +31,8 @@ columns_of_words a₀ a₁ a₂ a₃ b₀ b₁ b₂ b₃ =
 
 abbrev pub columns_of : (a b : List ℕ) → List ℕ
 columns_of a b =
-    columns_of_words (slice_index a 0) (slice_index a 1) (slice_index a 2) (slice_index a 3)
-    (slice_index b 0) (slice_index b 1) (slice_index b 2) (slice_index b 3)
+    columns_of_words (get_or a 0 0) (get_or a 1 0) (get_or a 2 0) (get_or a 3 0)
+    (get_or b 0 0) (get_or b 1 0) (get_or b 2 0) (get_or b 3 0)
 
 abbrev pub words32_of : ℕ → List ℕ
 words32_of n = n % 2 ^ 32 ∷ n / 2 ^ 32 ∷ []
@@ -40,8 +40,8 @@ words32_of n = n % 2 ^ 32 ∷ n / 2 ^ 32 ∷ []
 -- of a product of eight words
 abbrev pub value_of32 : List ℕ → ℕ
 value_of32 v =
-    ((((((slice_index v 7 * 2 ^ 32 + slice_index v 6) * 2 ^ 32 + slice_index v 5) * 2 ^ 32 + slice_index v 4) * 2 ^ 32 + slice_index v 3) * 2 ^ 32
-    + slice_index v 2) * 2 ^ 32 + slice_index v 1) * 2 ^ 32 + slice_index v 0
+    ((((((get_or v 7 0 * 2 ^ 32 + get_or v 6 0) * 2 ^ 32 + get_or v 5 0) * 2 ^ 32 + get_or v 4 0) * 2 ^ 32 + get_or v 3 0) * 2 ^ 32
+    + get_or v 2 0) * 2 ^ 32 + get_or v 1 0) * 2 ^ 32 + get_or v 0 0
 
 -- the product of the 256 low digits of n
 abbrev pub product_of32 : ℕ → List ℕ

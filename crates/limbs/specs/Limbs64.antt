@@ -1,12 +1,12 @@
 -- The lists of words of mul64, the low word first, and what each of its steps answers. Assumes nothing.
-use Rattle.std.specs.Prelude.{ℕ, ◌+◌, ◌*◌, ◌%◌, ◌^◌, List, [], ◌∷◌, slice_index}
+use Rattle.std.specs.Prelude.{ℕ, ◌+◌, ◌*◌, ◌%◌, ◌^◌, List, [], ◌∷◌, get_or}
 use Rattle.octets.specs.Xor.{◌⊕◌}
 use Rattle.gf2.specs.Carryless.{clmul}
 use Rattle.gf2.specs.Words.{word_at}
 
 -- of a product of four words
 abbrev pub value_of : List ℕ → ℕ
-value_of v = ((slice_index v 3 * 2 ^ 64 + slice_index v 2) * 2 ^ 64 + slice_index v 1) * 2 ^ 64 + slice_index v 0
+value_of v = ((get_or v 3 0 * 2 ^ 64 + get_or v 2 0) * 2 ^ 64 + get_or v 1 0) * 2 ^ 64 + get_or v 0 0
 
 -- the product of the 256 low digits of n
 abbrev pub product_of : ℕ → List ℕ

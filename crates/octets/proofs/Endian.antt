@@ -6,8 +6,7 @@ use Rattle.std.proofs.lemmas.List.{reverse-append}
 use Rattle.std.specs.Int.{Width, w8, w16, w32, w64, w128, byte_len, byte_at, byte_worth, bytes_low_first, bytes_high_first, sum_through, from_le_bytes, to_le_bytes, from_be_bytes, to_be_bytes, swap_bytes}
 use Rattle.octets.specs.Numbers.{number, bytes_of}
 use Rattle.octets.specs.Joined.{Joined}
-use Rattle.octets.proofs.Numbers.{Bytes, bytes_++, bytes_of-length, number_++}
-use Rattle.octets.proofs.WordBytes.{joined_by}
+use Rattle.octets.proofs.Numbers.{Bytes, bytes_of-number, bytes_++, bytes_of-length, number_++}
 
 worth : (i b : ℕ) → byte_worth i b ≡ b * 256 ^ i
 worth zero b = omega arith
@@ -54,6 +53,9 @@ pub to_le : (w : Width) (n : ℕ) → to_le_bytes w n ≡ bytes_of (byte_len w) 
 to_le w n = low_first 0 (byte_len w) n ∙ ap (bytes_of (byte_len w)) (omega arith)
 
 -- what a word was read from are its bytes
+joined_by : (bs : List ℕ) (r : ℕ) → Bytes bs → r ≡ number bs → Joined bs r
+joined_by bs r h e = record { value = e; back = ap (bytes_of (length bs)) e ∙ bytes_of-number bs h }
+
 pub le_joined : (w : Width) (bs : List ℕ) → length bs ≡ byte_len w → Bytes bs → {r : ℕ} → r ≡ from_le_bytes w bs → Joined bs r
 le_joined w bs long small {r} e = joined_by bs r small (e ∙ from_le w bs long)
 

@@ -2,7 +2,6 @@
 pub mod Digit
 pub mod Xor
 pub mod Numbers
-pub mod WordBytes
 pub mod XorBytes
 pub mod Parts
 pub mod Copies

@@ -1,19 +1,9 @@
-// Byte strings: copied, put at a place, combined and compared. Words of bytes are in the module words. What
-// they mean is in specs/. Assumes nothing.
+// Byte strings: copied, put at a place, combined and compared. What they mean is in specs/. Assumes nothing.
 #![tactic(auto)]
 
-pub mod words;
-
-ghost use Rattle.std.specs.Prelude.{◌≡◌, min};
+ghost use Rattle.std.specs.Prelude.{◌≡◌};
 ghost use Rattle.octets.specs.Strings.{xor_bytes, copied, same_bytes};
 ghost use Rattle.octets.specs.Places.{Puts};
-
-// The smaller of two lengths.
-pub fn shorter(a: usize, b: usize) -> usize
-    ensures { result ≡ min a b }
-{
-    if a < b { a } else { b }
-}
 
 // Adds pad to the front of text, as far as both go. The rest of text stays.
 pub fn xor_into(pad: &[u8], text: &mut [u8])

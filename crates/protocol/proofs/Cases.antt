@@ -9,7 +9,7 @@ use Rattle.octets.specs.Numbers.{number}
 use Rattle.octets.specs.Strings.{copied}
 use Rattle.protocol.specs.declared.words.Words.{Words}
 use Rattle.protocol.specs.declared.said.Said.{Said}
-use Rattle.protocol.specs.Input.{nothing_read}
+use Rattle.protocol.specs.Input.{nothing_read, between_lines}
 use Rattle.protocol.specs.Parts.{part_of}
 use Rattle.protocol.specs.Words.{slot_at, span_of, block_of, spelled_high_first}
 use Rattle.protocol.specs.Said.{numbers_of, in_kind, with_bytes}
@@ -97,3 +97,7 @@ no_line_yet = refl
 
 pub not_over_yet : nothing_read.over ≡ false
 not_over_yet = refl
+
+-- between two lines only the bytes that wait are kept
+pub bytes_wait_between_lines : between_lines (record { from = 3; to = 5 }) ≡ record { from = 3; to = 5; have = 0; whole = false; over = false }
+bytes_wait_between_lines = refl

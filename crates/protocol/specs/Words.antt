@@ -1,5 +1,5 @@
 -- What the words of a line say: docs/PROTOCOL.md. Assumes nothing.
-use Rattle.std.specs.Prelude.{ℕ, ◌%◌, ◌^◌, List, [], ◌∷◌, reverse, get_or, slice_index_or, replicate}
+use Rattle.std.specs.Prelude.{ℕ, ◌%◌, ◌^◌, List, [], ◌∷◌, reverse, get_or, replicate}
 use Rattle.octets.specs.Numbers.{number}
 use Rattle.octets.specs.Strings.{copied}
 use Rattle.protocol.specs.declared.words.Slot.{Slot}
@@ -12,7 +12,7 @@ three_of s = s.from ∷ s.to ∷ s.number ∷ []
 
 -- number k of the slot of word i. Where there is no such word, they are 0
 abbrev pub slot_at : Words → (i k : ℕ) → ℕ
-slot_at w i k = get_or (three_of (slice_index_or w.slots i (record { from = 0; to = 0; number = 0 }))) k 0
+slot_at w i k = get_or (three_of (get_or w.slots i (record { from = 0; to = 0; number = 0 }))) k 0
 
 -- the bytes of the words from i to j
 abbrev pub span_of : Words → (arena : List ℕ) (i j : ℕ) → List ℕ

@@ -33,7 +33,7 @@ impl Reading {
 // More characters of the line: how many it has then, none where its buffer does not hold them.
 fn keep(s: &[u8], line: &mut [u8], have: Option<usize>) -> Option<usize> {
     let end = have?.checked_add(s.len())?;
-    octets::copy(s, line.get_mut(have?..end)?);
+    line.get_mut(have?..end)?.copy_from_slice(s);
     Some(end)
 }
 

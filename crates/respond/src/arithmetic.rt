@@ -1,21 +1,11 @@
 // Requests on words and on field elements.
 use field::FieldElement;
 use protocol::said::Said;
-use protocol::words::Words;
+use protocol::words::Asked;
 
 // The word of 32 bits that a number of 64 ends with.
 fn low_half(x: u64) -> u32 {
-    (x % 0x1_0000_0000) as u32
-}
-
-// The low word of a carryless product of 32 bits.
-fn bmul32(x: u64, y: u64) -> u64 {
-    word::bmul32(low_half(x), low_half(y)) as u64
-}
-
-// A word of 32 bits with its bits turned round.
-fn reverse32(x: u64) -> u64 {
-    word::reverse32(low_half(x)) as u64
+    (x & 0xFFFF_FFFF) as u32
 }
 
 // Both words of a carryless product of 64 bits.
@@ -25,14 +15,15 @@ fn product64(x: u64, y: u64) -> Said {
 }
 
 // Requests on words.
-pub(crate) fn on_words(call: u8, w: Words, arena: &[u8]) -> Said {
-    let x = w.spelled(arena, 0);
-    let y = w.spelled(arena, 1);
-    match call {
+pub(crate) fn on_words(asked: &Asked) -> Said {
+    let x = asked.spelled(0);
+    let y = asked.spelled(1);
+    let (x32, y32) = (low_half(x), low_half(y));
+    match asked.call {
         b'p' => product64(x, y),
-        b'b' => Said::numbers(bmul32(x, y), 0, 0),
+        b'b' => Said::numbers(u64::from(word::bmul32(x32, y32)), 0, 0),
         b'r' => Said::numbers(word::reverse64(x), 0, 0),
-        _ => Said::numbers(reverse32(x), 0, 0),
+        _ => Said::numbers(u64::from(word::reverse32(x32)), 0, 0),
     }
 }
 
@@ -56,10 +47,9 @@ fn element(call: u8, a: FieldElement, b: FieldElement) -> FieldElement {
 }
 
 // Requests on elements. What is said lies in the space.
-pub(crate) fn on_elements(call: u8, w: Words, arena: &[u8], space: &mut [u8]) -> Said {
-    let a = FieldElement::from_bytes(w.block(arena, 0));
-    let b = FieldElement::from_bytes(w.block(arena, 1));
-    let said = element(call, a, b).to_bytes();
-    octets::copy(&said, space);
+pub(crate) fn on_elements(asked: &Asked, space: &mut [u8]) -> Said {
+    let a = FieldElement::from_bytes(asked.block(0));
+    let b = FieldElement::from_bytes(asked.block(1));
+    octets::copy(&element(asked.call, a, b).to_bytes(), space);
     Said::numbers(0, 0, 0)
 }

@@ -1,10 +1,11 @@
-// Requests on stored keys and on hash records.
+// Requests on stored keys and on hash records. A call that refuses is answered with zeros beside the reason's number.
 ghost use Rattle.std.specs.Prelude.{◌≤◌};
 
+use answer::Reason;
 use feeding::{Fed, Finished, Hash, Route};
 use field::FieldElement;
 use protocol::said::Said;
-use protocol::words::Words;
+use protocol::words::Asked;
 
 // The record that bytes spell, as far as they go: the key, the element, what is pending. It counts none of that.
 fn stored(s: &[u8]) -> Hash {
@@ -14,18 +15,12 @@ fn stored(s: &[u8]) -> Hash {
 }
 
 // The record of word i and the three behind it.
-fn record_at(w: Words, arena: &[u8], i: usize) -> Hash
+fn record_at(asked: &Asked, i: usize) -> Hash
     requires { i ≤ 4 }
 {
-    let h = stored(w.span(arena, i, i + 2));
-    let key = h.key;
-    let acc = h.acc;
-    let pending = h.pending;
     Hash {
-        key,
-        acc,
-        pending,
-        count: w.number(i + 3) as usize,
+        count: asked.number(i + 3) as usize,
+        ..stored(asked.span(i, i + 2))
     }
 }
 
@@ -39,48 +34,43 @@ fn route_of(n: u64) -> Route {
 }
 
 // An answer with the record that was made, which lies in the space, and what was spent on it.
-fn made(f: Fed, space: &mut [u8]) -> Said {
-    let h = f.hash;
-    let b = record::encode(h);
-    octets::copy(&b, space);
-    Said::numbers(f.answer as u64, h.count as u64, f.multiplies).with_bytes(crate::KEY)
+fn made(fed: Result<Fed, Reason>, space: &mut [u8]) -> Said {
+    let answer = u64::from(answer::number(&fed));
+    let Fed { hash, multiplies } = fed.unwrap_or_else(|_| Fed {
+        hash: hash::zero(),
+        multiplies: 0,
+    });
+    octets::copy(&record::encode(hash), space);
+    Said::numbers(answer, hash.count as u64, multiplies).with_bytes(crate::KEY)
 }
 
 // The key that is expanded from h, in a record, and what was spent on it.
 fn expanded(h: FieldElement) -> Fed {
     let e = polyval::key::expand(h);
-    let key = e.key;
-    let hash = Hash {
-        key,
-        acc: FieldElement::ZERO,
-        pending: [0u8; 16],
-        count: 0,
-    };
     Fed {
-        answer: 0,
-        hash,
+        hash: Hash {
+            key: e.key,
+            ..hash::zero()
+        },
         multiplies: e.multiplies,
     }
 }
 
-// Whether a stored key passes the check.
-fn is_right(h: Hash) -> u64 {
-    let key = h.key;
-    polyval::key::check(key) as u64
-}
-
 // Requests on a key.
-pub(crate) fn of_key(call: u8, w: Words, arena: &[u8], space: &mut [u8]) -> Said {
-    let s = w.bytes(arena, 0);
-    match call {
-        b'e' => made(expanded(FieldElement::from_bytes(w.block(arena, 0))), space),
+pub(crate) fn of_key(asked: &Asked, space: &mut [u8]) -> Said {
+    let s = asked.bytes(0);
+    match asked.call {
+        b'e' => made(
+            Ok(expanded(FieldElement::from_bytes(asked.block(0)))),
+            space,
+        ),
         b's' => made(hash::start(s), space),
-        _ => Said::numbers(is_right(stored(s)), 0, 0),
+        _ => Said::numbers(u64::from(polyval::key::check(stored(s).key)), 0, 0),
     }
 }
 
 // One of the three feeds.
-fn feed(call: u8, h: Hash, route: Route, s: &[u8]) -> Fed {
+fn feed(call: u8, h: Hash, route: Route, s: &[u8]) -> Result<Fed, Reason> {
     match call {
         b'b' => hash::feed_blocks(h, route, s),
         b'p' => hash::feed_padded(h, route, s),
@@ -89,38 +79,40 @@ fn feed(call: u8, h: Hash, route: Route, s: &[u8]) -> Fed {
 }
 
 // What finish says: its tag lies in the space.
-fn finished(f: Finished, space: &mut [u8]) -> Said {
-    let tag = f.tag;
+fn finished(finished: Result<Finished, Reason>, space: &mut [u8]) -> Said {
+    let answer = u64::from(answer::number(&finished));
+    let Finished { tag, multiplies } = finished.unwrap_or(Finished {
+        tag: [0; 16],
+        multiplies: 0,
+    });
     octets::copy(&tag, space);
-    Said::numbers(f.answer as u64, f.multiplies, 0)
+    Said::numbers(answer, multiplies, 0)
 }
 
 // Requests whose first word is a route and whose second is a record.
-pub(crate) fn on_route(call: u8, w: Words, arena: &[u8], space: &mut [u8]) -> Said {
-    let route = route_of(w.number(0));
-    let h = record_at(w, arena, 1);
-    match call {
+pub(crate) fn on_route(asked: &Asked, space: &mut [u8]) -> Said {
+    let route = route_of(asked.number(0));
+    let h = record_at(asked, 1);
+    match asked.call {
         b'f' => finished(hash::finish(h, route), space),
-        _ => made(feed(call, h, route, w.bytes(arena, 5)), space),
+        _ => made(feed(asked.call, h, route, asked.bytes(5)), space),
     }
 }
 
 // The join of two records, as a feed says it.
-fn joined(first: Hash, second: Hash, n: u64) -> Fed {
-    let j = join::join(first, second, n);
-    let hash = j.hash;
-    Fed {
-        answer: j.answer,
-        hash,
+fn joined(first: Hash, second: Hash, n: u64) -> Result<Fed, Reason> {
+    let j = join::join(first, second, n)?;
+    Ok(Fed {
+        hash: j.hash,
         multiplies: j.dots,
-    }
+    })
 }
 
 // Requests whose first word is a record. What reset spends its form leaves away.
-pub(crate) fn of_record(call: u8, w: Words, arena: &[u8], space: &mut [u8]) -> Said {
-    let h = record_at(w, arena, 0);
-    match call {
-        b'j' => made(joined(h, record_at(w, arena, 4), w.number(8)), space),
+pub(crate) fn of_record(asked: &Asked, space: &mut [u8]) -> Said {
+    let h = record_at(asked, 0);
+    match asked.call {
+        b'j' => made(joined(h, record_at(asked, 4), asked.number(8)), space),
         _ => made(hash::reset(h), space),
     }
 }

@@ -15,10 +15,11 @@ mod sealed;
 
 ghost use Rattle.std.specs.Prelude.{◌≡◌, length};
 
-use protocol::input::Reading;
+use protocol::input::{Next, Reading};
 use protocol::said::Said;
-use protocol::table::Request;
-use protocol::{input, said, table, words};
+use protocol::waiting::Waiting;
+use protocol::words::Asked;
+use protocol::{input, said, table};
 use std::io;
 use std::io::{Read, Write};
 
@@ -26,105 +27,89 @@ use std::io::{Read, Write};
 const KEY: usize = 32 * feeding::POWERS;
 
 // What is read of the input at a time.
-fn piece_buffer() -> [u8; 65536]
-    ensures { 65536 ≡ length result }
-{
-    [0; 65536]
-}
+const PIECE: usize = 65536;
 
 // The longest line that is a request.
-fn line_buffer() -> [u8; 300000]
-    ensures { 300000 ≡ length result }
-{
-    [0; 300000]
-}
+const LINE: usize = 300000;
 
 // Answers that wait to be written: what may wait, and the longest answer, or all the bytes that a line can spell.
-fn out_buffer() -> [u8; 700000]
-    ensures { 700000 ≡ length result }
+const ANSWERS: usize = 700000;
+
+// The requests, a row each: name, letters of its function and arm, letters of its words, form of its answer.
+const REQUESTS: &[u8] = b"product64 wp xx X,X\n\
+      bmul32 wb yy Y\n\
+      reverse64 wr x X\n\
+      reverse32 wh y Y\n\
+      add ea ee E\n\
+      dot ed ee E\n\
+      dot32 en ee E\n\
+      rf ef ee E\n\
+      mulx em e E\n\
+      reverse er e E\n\
+      expand ke e B,__N\n\
+      start ks b N,B:A:P:N,N\n\
+      check kc k N\n\
+      blocks hb tKEEnb N,B:A:P:N,N\n\
+      padded hp tKEEnb N,B:A:P:N,N\n\
+      piece hi tKEEnb N,B:A:P:N,N\n\
+      finish hf tKEEn N,E,N\n\
+      reset rr KEEn N,B:A:P:N\n\
+      join rj KEEnKEEnn N,B:A:P:N,N\n\
+      ghash cg bb N,E\n\
+      aes ca ce E\n\
+      seal ss bbbbr N,O\n\
+      open so bbbbr N,O\n\
+      write fw ibbbr N,N,O\n\
+      read fr bbr position,I,I,I,N,N,O|text,N,N,O|check-in,N,O|refused,N,O\n\
+      scan fs b B,N,N";
+
+// A buffer of zeros. A proof knows its length alone, since the list is too long to compute.
+fn zeros<const N: usize>() -> [u8; N]
+    ensures { length result ≡ N }
 {
-    [0; 700000]
+    [0; N]
 }
 
-// The call that a request asks for, and what it says. Bytes that it says it puts into the space.
-fn carry_out(q: Request, arena: &[u8], space: &mut [u8]) -> Said {
-    let w = q.words;
-    let group = q.group;
+// What the call says that a line asks for. Bytes that it says it puts into the space. The letters are the table's, and each arm takes
+// what its call needs: a match says that most plainly.
+fn carry_out(group: u8, asked: &Asked, space: &mut [u8]) -> Said {
     match group {
-        b'w' => arithmetic::on_words(q.call, w, arena),
-        b'e' => arithmetic::on_elements(q.call, w, arena, space),
-        b'k' => hashing::of_key(q.call, w, arena, space),
-        b'h' => hashing::on_route(q.call, w, arena, space),
-        b'r' => hashing::of_record(q.call, w, arena, space),
-        b'c' => sealed::of_blocks(q.call, w, arena, space),
-        b's' => sealed::seal_or_open(q.call, w, arena, space),
-        b'f' => frames::answer(q.call, w, arena, space),
+        b'w' => arithmetic::on_words(asked),
+        b'e' => arithmetic::on_elements(asked, space),
+        b'k' => hashing::of_key(asked, space),
+        b'h' => hashing::on_route(asked, space),
+        b'r' => hashing::of_record(asked, space),
+        b'c' => sealed::of_blocks(asked, space),
+        b's' => sealed::seal_or_open(asked, space),
+        b'f' => frames::answer(asked, space),
         _ => Said::numbers(0, 0, 0),
     }
 }
 
-// The answer to the line that was read, behind the `at` bytes that wait in `out`: how many wait then. Until the answer is
-// printed there, the bytes of the line's words lie there. Once they do the line is needed no more, and its buffer is the space
-// that a call writes to.
-fn by_table<W: Write>(
-    output: &mut W,
-    rows: &[u8],
-    line: &mut [u8],
-    r: Reading,
-    out: &mut [u8],
-    at: usize,
-) -> io::Result<usize> {
-    let q = table::understood(rows, KEY, line, r, out, at);
-    let w = q.words;
-    let room = w.room_in(line);
-    let said = carry_out(q, words::arena(out, at), &mut line[0..room]);
-    said::answered(output, rows, q, said, line, out, at)
-}
-
-// The requests, a row each: name, letters of its function and arm, letters of its words, form of its answer.
+// The answer to a line of n characters, behind those that wait. Until it is printed there, the bytes of the line's words lie there.
+// Once they do the line is needed no more, and its buffer is the space that a call writes to.
 fn answer<W: Write>(
     output: &mut W,
     line: &mut [u8],
-    r: Reading,
-    out: &mut [u8],
-    at: usize,
-) -> io::Result<usize> {
-    by_table(
-        output,
-        b"product64 wp xx X,X\n\
-          bmul32 wb yy Y\n\
-          reverse64 wr x X\n\
-          reverse32 wh y Y\n\
-          add ea ee E\n\
-          dot ed ee E\n\
-          dot32 en ee E\n\
-          rf ef ee E\n\
-          mulx em e E\n\
-          reverse er e E\n\
-          expand ke e B,__N\n\
-          start ks b N,B:A:P:N,N\n\
-          check kc k N\n\
-          blocks hb tKEEnb N,B:A:P:N,N\n\
-          padded hp tKEEnb N,B:A:P:N,N\n\
-          piece hi tKEEnb N,B:A:P:N,N\n\
-          finish hf tKEEn N,E,N\n\
-          reset rr KEEn N,B:A:P:N\n\
-          join rj KEEnKEEnn N,B:A:P:N,N\n\
-          ghash cg bb N,E\n\
-          aes ca ce E\n\
-          seal ss bbbbr N,O\n\
-          open so bbbbr N,O\n\
-          write fw ibbbr N,N,O\n\
-          read fr bbr position,I,I,I,N,N,O|text,N,N,O|check-in,N,O|refused,N,O\n\
-          scan fs b B,N,N",
-        line,
-        r,
-        out,
-        at,
-    )
+    n: usize,
+    waiting: &mut Waiting,
+) -> io::Result<()> {
+    let text = line.get(..n).unwrap_or(&[]);
+    let Some(q) = table::understood(REQUESTS, KEY, text, waiting) else {
+        return said::answered(output, None, line, waiting);
+    };
+    let room = q.words.room_in(line);
+    let asked = Asked {
+        call: q.call,
+        words: q.words,
+        arena: waiting.arena(),
+    };
+    let said = carry_out(q.group, &asked, &mut line[..room]);
+    said::answered(output, Some((q, said)), line, waiting)
 }
 
-// Answers every line of the input. Where a read fails, what waits is written before the error is handed back.
+// Answers every line of the input; one that is too long is no request. Where a read fails, what waits is written before the error
+// is handed back.
 fn run<R: Read, W: Write>(
     input: &mut R,
     output: &mut W,
@@ -132,36 +117,28 @@ fn run<R: Read, W: Write>(
     line: &mut [u8],
     out: &mut [u8],
 ) -> io::Result<()> {
-    let mut r = Reading::start();
-    let mut at = 0;
-    let mut left = u64::MAX;
-    while left > 0 {
-        r = match input::next_line(input, piece, line, r) {
-            Ok(next) => next,
+    let mut reading = Reading::start();
+    let mut waiting = Waiting::none(out);
+    for _ in 0..u64::MAX {
+        match input::next_line(input, piece, line, &mut reading) {
+            Ok(Next::Line(n)) => answer(output, line, n, &mut waiting)?,
+            Ok(Next::TooLong) => said::answered(output, None, line, &mut waiting)?,
+            Ok(Next::Nothing) => break,
             Err(e) => {
-                said::write(output, out, at)?;
+                waiting.write(output)?;
                 return Err(e);
             }
-        };
-        if r.over {
-            left = 0;
-        } else {
-            at = answer(output, line, r, out, at)?;
-            left -= 1;
         }
     }
-    said::write(output, out, at)
+    waiting.write(output)
 }
 
 fn main(rt: HostRuntime) -> io::Result<()> {
-    let mut piece = piece_buffer();
-    let mut line = line_buffer();
-    let mut out = out_buffer();
     run(
         &mut rt.stdin(),
         &mut rt.stdout(),
-        &mut piece,
-        &mut line,
-        &mut out,
+        &mut zeros::<PIECE>(),
+        &mut zeros::<LINE>(),
+        &mut zeros::<ANSWERS>(),
     )
 }

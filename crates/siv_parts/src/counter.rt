@@ -33,6 +33,7 @@ pub fn mask(cipher: &Cipher, start: [u8; 16], text: &mut [u8])
     // By place: of what a loop over chunks_mut has written a proof knows nothing.
     for k in 0..text.len().div_ceil(16) {
         octets::xor_into(&cipher.encrypt(counter), &mut text[k * 16..]);
+        // In two steps: a call's result is not laid into an array that was lent.
         let next = next_counter(counter);
         counter = next;
     }

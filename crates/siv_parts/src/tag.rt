@@ -80,6 +80,7 @@ impl Keys {
         let mut b = start;
         for block in body.chunks(16) {
             a = absorb_front(self.hash, a, self.cipher.encrypt(b), block);
+            // In two steps: a call's result is not laid into an array that was lent.
             let next = counter::next_counter(b);
             b = next;
         }

@@ -6,7 +6,11 @@ use mathlib.Core.List.{List, [], ◌∷◌, ◌++◌, map}
 use lib.ListN.{take, drop, replicate}
 use Rattle.framing.specs.Kinds.{table, row_of, is_known, is_allowed}
 use Rattle.framing.specs.Front.{Whole, Stop, checks, front_of}
-use Rattle.window.specs.Step.{Frame, More, End, on_front, step_of, values_of}
+use Rattle.std.specs.Prelude.{Ok, Err}
+use Rattle.answer.specs.declared.Reason.TheVariants.{CutShort}
+use Rattle.framing.specs.declared.kind.Kind.TheVariants.{Text}
+use Rattle.window.specs.declared.Step.TheVariants as code
+use Rattle.window.specs.Step.{step_told, Frame, More, End, on_front, step_of, values_of}
 use Rattle.window.specs.Slide.{inside, Slid}
 use Rattle.window.specs.Reader.{ended, before, go_on, reported}
 
@@ -19,6 +23,10 @@ more_values = refl
 
 pub end_values : (r : ℕ) → values_of (End r) ≡ record { more = false; stop = r; kind = 0; taken = 0 }
 end_values r = refl
+
+-- what is told of code's steps, by literal
+pub told_steps : (step_told (code.Frame (record { kind = Text; taken = 33 })) ≡ Frame 2 33) × (step_told code.More ≡ More) × (step_told (code.End (Ok tt)) ≡ End 0) × (step_told (code.End (Err CutShort)) ≡ End 12)
+told_steps = (refl, refl, refl, refl)
 
 -- "An empty buffer is .. stop 0 as a scan": the exact end, where the log has no more
 pub nothing_held_steps : (step_of true [] ≡ End 0) × (step_of false [] ≡ More)

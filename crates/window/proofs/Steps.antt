@@ -1,19 +1,11 @@
 -- A step, by the tests of the code. Assumes nothing.
 use Prim.Native.Nat.{ℕ}
-use mathlib.Core.Path.{◌≡◌, refl, sym, ap, ◌∙◌}
-use mathlib.Core.Bool.{Bool, true, false, cond}
+use mathlib.Core.Path.{◌≡◌, refl, ap, ◌∙◌}
+use mathlib.Core.Bool.{Bool, false, cond}
 use mathlib.Core.List.{List}
 use borrow.Author.Tests.{eq-eqb, ne_eqb}
 use lib.ListN.{length}
-use native.Mathlib.Omega.{arith}
-use borrow.Author.Rules.{rules}
-use denote.Enum.Bare.{sameb, same_true}
 use Rattle.answer.specs.Answers.{cut_short}
-use Rattle.answer.specs.declared.Reason.{Reason}
-use Rattle.answer.specs.declared.Reason.TheVariants.{CutShort}
-use Rattle.answer.specs.contracts.Reason.{the_type}
-use Rattle.answer.specs.Reasons.{number_of}
-use Rattle.answer.proofs.Reasons.{one_reason}
 use Rattle.framing.proofs.Told.{one_kind, one_answer}
 use Rattle.window.specs.declared.Step.{Step as CodeStep}
 use Rattle.window.specs.declared.Step.TheVariants as code
@@ -29,23 +21,8 @@ unfolding step_of
 some_held last held f h e = ap (on_front last) e ∙ simp (ne_eqb _ _ h)
 
 -- what a reason to stop comes to
-pub stops_last : (last : Bool) (r : ℕ) → last ≡ true → End r ≡ on_front last (Stop r)
-stops_last last r e = rw e
-
-pub asks_more : (last : Bool) (r : ℕ) → last ≡ false → r ≡ cut_short → More ≡ on_front last (Stop r)
-asks_more last r e f = rw (e, f)
-
 pub stops_anyhow : (last : Bool) (r : ℕ) → last ≡ false → (r ≡ cut_short → ⊥) → End r ≡ on_front last (Stop r)
 stops_anyhow last r e f = rw e (simp (ne_eqb _ _ f))
-
--- what the test for a cut says of a reason
-pub is_cut : (r : Reason) → sameb the_type r CutShort ≡ true → number_of r ≡ cut_short
-is_cut r e = ap number_of (same_true the_type (search rules) r CutShort e)
-
-pub no_cut : (r : Reason) → sameb the_type r CutShort ≡ false → number_of r ≡ cut_short → ⊥
-no_cut r e same =
-    let here : ◌≡◌ {A = Bool} true false = ap (λ (x : Reason). sameb the_type x CutShort) (sym (one_reason r CutShort same)) ∙ e in
-    absurd (let z : ◌≡◌ {A = ℕ} 0 1 = cc in omega arith)
 
 -- what is told of a step fixes what code has
 pub one_step : (a b : CodeStep) → step_told a ≡ step_told b → a ≡ b

@@ -32,6 +32,7 @@ pub enum Step {
 }
 
 // The step of a reader that holds these bytes. last says that the log has no more.
+#[tactic(auto, unfolding(crate::specs::Step::step_of))]
 pub fn next_step(held: &[u8], last: bool) -> Step
     ensures { step_told result ≡ step_of last held.now }
 {

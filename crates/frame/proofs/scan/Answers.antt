@@ -4,18 +4,14 @@ use Prim.Native.Nat.{ℕ, ◌-◌, ◌≤◌}
 use mathlib.Core.List.{List}
 use mathlib.Core.Path.{◌≡◌, refl, sym, ap, ◌∙◌}
 use native.Mathlib.Omega.{arith}
-use borrow.Author.Rules.{rules}
 use lib.ListN.{length, take, drop, length-drop}
-use lib.Seq.{length-take-le, take_all}
+use lib.Seq.{take_all}
 use Rattle.framing.specs.Kinds.{kind_number}
 use Rattle.framing.specs.Front.{Front, Whole, front_of, front_told}
 use Rattle.framing.proofs.Whole.{is_whole, whole_bounds}
-use Rattle.frame.proofs.Turns.{turn_whole, turn_stop, turn_end, at_start}
+use Rattle.frame.proofs.Turns.{turn_whole, turn_stop, turn_end}
 use Rattle.frame.proofs.scan.Goals as goal
 use Rattle.frame.proofs.scan.Goals.{In-Ok}
-
-pub loop-at-init : goal.loop-at-init
-loop-at-init c = (search rules, search rules, at_start c.args.log.now)
 
 -- what was found is what stands at the place in the log
 found : (log : List ℕ) (at : ℕ) {r : Front} → r ≡ front_of (take (length log - at) (drop at log)) → r ≡ front_of (drop at log)
@@ -44,17 +40,11 @@ loop-at-preserved c =
     let i = inside d in
     (omega arith, omega arith, turn_whole _ l.at l.frames l.invariant.2 _ _ (whole_there d))
 
-pub slice_bounds-result-end : goal.slice_bounds-result-end
-slice_bounds-result-end c = sym (length-take-le _ _ (omega arith))
-
 pub returns-in-Err : goal.returns-in-Err
 returns-in-Err c =
     let l = c.loop-at in
     let log = c.args.log.now in
     record { scanned = turn_stop log l.at l.frames l.invariant.2 _ (omega arith) (sym (found log l.at c.front_of.ensures) ∙ ap front_told c.in-Err.is); place = refl }
-
-pub slice_bounds-result-end-2 : goal.slice_bounds-result-end-2
-slice_bounds-result-end-2 c = sym (length-take-le _ _ (omega arith))
 
 pub returns : goal.returns
 returns c =

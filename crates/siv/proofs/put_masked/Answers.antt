@@ -16,9 +16,7 @@ slice_bounds-mask-end-2 c =
 
 pub returns : goal.returns
 returns c =
-    let start = c in
-    let a = start.args in
-    let copied = c.copy in
-    let m = c.mask in
-    changed_front (mask_under (encrypted a.keys.now.cipher) a.tag) a.text.now a.out.now copied.new.dst m.new.text start.requires copied.ensures
-    (m.ensures ∙ ap (λ b. masked next_counter (encrypted a.keys.now.cipher) b (take (length a.text.now) copied.new.dst)) c.counter_block.ensures)
+    let a = c.args in
+    let dst = c.copy.new.dst in
+    changed_front (mask_under (encrypted a.keys.now.cipher) a.tag) a.text.now a.out.now dst c.mask.new.text c.requires c.copy.ensures
+    (c.mask.ensures ∙ ap (λ b. masked next_counter (encrypted a.keys.now.cipher) b (take (length a.text.now) dst)) c.counter_block.ensures)

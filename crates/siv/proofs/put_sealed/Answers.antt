@@ -15,8 +15,7 @@ use Rattle.siv.proofs.put_sealed.Goals as goal
 pub returns : goal.returns
 unfolding sealed_by
 returns c =
-    let start = c in
-    let a = start.args in
+    let a = c.args in
     let f = encrypted a.keys.now.cipher in
     let text = a.text.now in
     let out = a.out.now in
@@ -25,6 +24,6 @@ returns c =
     let last = c.copy in
     let sixteen : length made.result ≡ 16 = search rules in
     put_behind (mask_under f made.result text) made.result out put.new.out last.new.dst (length text)
-    (masked_length next_counter f (counter_block made.result) text) (omega (arith, start.requires)) put.ensures last.ensures
+    (masked_length next_counter f (counter_block made.result) text) (omega (arith, c.requires)) put.ensures last.ensures
     ∙ ap (λ n. (mask_under f made.result text ++ made.result) ++ drop (length text + n) out) sixteen
     ∙ ap (λ (t : List ℕ). (mask_under f t text ++ t) ++ drop (length text + 16) out) made.ensures

@@ -6,8 +6,7 @@ use Rattle.word.proofs.upper64.Goals as goal
 
 pub returns : goal.returns
 returns c =
-    let s = c in
     ap (λ n. n / 2)
     (c.reverse64-3.ensures
     ∙ ap (rev 64) (c.bmul64.ensures ∙ ap₂ (λ p q. clmul p q % 2 ^ 64) c.reverse64.ensures c.reverse64-2.ensures))
-    ∙ sym (upper_half 64 s.args.x s.args.y s.ranges.x.fits s.ranges.y.fits)
+    ∙ sym (upper_half 64 c.args.x c.args.y c.ranges.x.fits c.ranges.y.fits)

@@ -17,9 +17,8 @@ loop-state-init c =
 kept : (c : After-halve-state) → Kept c.loop-state.state c.halve-state.result
 kept c =
     let l = c.loop-state in
-    let start = c in
     subst (Kept l.state) (sym (c.halve-state.ensures ∙ ap halved c.choose.ensures))
-    (turn l.state c.loop-state-test.true l.invariant.2 (omega (arith, l.invariant.1, dots_bound start.args.n start.ranges.n.fits)))
+    (turn l.state c.loop-state-test.true l.invariant.2 (omega (arith, l.invariant.1, dots_bound c.args.n c.ranges.n.fits)))
 
 pub loop-state-smaller : goal.loop-state-smaller
 loop-state-smaller c = (kept (goal.at.loop-state-smaller c).After-halve-state).less

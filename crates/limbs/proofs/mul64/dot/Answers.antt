@@ -13,7 +13,6 @@ use Rattle.limbs.proofs.mul64.dot.Goals as goal
 pub returns : goal.returns
 unfolding dot
 returns c =
-    let start = c in
-    let small = product_lt start.args.a start.args.b (record { lo = omega arith; hi = omega arith }) (record { lo = omega arith; hi = omega arith }) in
+    let small = product_lt c.args.a c.args.b (record { lo = omega arith; hi = omega arith }) (record { lo = omega arith; hi = omega arith }) in
     c.mont_reduce.ensures
-    ∙ ap (λ n. words_of (reduce (clmul n x_inv128))) (ap value_of c.karatsuba_mul.ensures ∙ value_product (clmul (value start.args.a) (value start.args.b)) small)
+    ∙ ap (λ n. words_of (reduce (clmul n x_inv128))) (ap value_of c.karatsuba_mul.ensures ∙ value_product (clmul (value c.args.a) (value c.args.b)) small)

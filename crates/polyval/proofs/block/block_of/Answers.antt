@@ -1,6 +1,5 @@
 -- `polyval::block::block_of` meets its contract. Assumes nothing.
-use mathlib.Core.Path.{ap, ◌∙◌}
-use lib.ListN.{take}
+use Rattle.std.proofs.Common.{take, ap, ◌∙◌}
 use Rattle.octets.specs.Numbers.{number}
 use Rattle.octets.proofs.Numbers.{bytes_from}
 use Rattle.field.specs.Element.{element}
@@ -12,4 +11,4 @@ pub returns : goal.returns
 returns c =
     let s = c.args.s.now in
     let is = c.from_bytes.ensures ∙ ap (λ b. element (number b)) c.pasted.ensures ∙ ap element (number_pasted s) in
-    record { is = is; whole = value_of (number (take 16 s)) (block_lt s (bytes_from s (λ i. (c.shared_slice_known-1.given i).fits))) is }
+    record { is = is; whole = value_of (number (take 16 s)) (block_lt s (bytes_from s (λ i. (c.type_inv.s i).fits))) is }

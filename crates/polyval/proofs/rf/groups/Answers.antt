@@ -1,21 +1,10 @@
 -- `polyval::rf::groups` meets its contract. Assumes nothing.
-use Rattle.std.proofs.Common.{◌/◌, ◌%◌, length, min, sym, ap, ◌∙◌, arith}
+use Rattle.std.proofs.Common.{◌/◌, length, min, sym, ap, ◌∙◌, arith}
 use lib.ListN.{length-take}
 use Rattle.feeding.specs.Formulas.{groups_of}
 use Rattle.rfc8452.specs.Blocks.{blocks}
 use Rattle.polyval.proofs.Groups.{group_blocks, still_filled, groups_turn, groups_end}
 use Rattle.polyval.proofs.rf.groups.Goals as goal
-
-pub loop-part-init : goal.loop-part-init
-loop-part-init c =
-    let n = c.args.n in
-    let at = c.into_iter-part-iterator.ensures.into_iter_gives in
-    let rest = ap (λ i. i.rest.now) at ∙ c.chunks-part-items.ensures.rest in
-    record {
-      size = ap (λ i. i.size) at ∙ c.chunks-part-items.ensures.size ∙ omega arith;
-      filled = ap (λ t. length (blocks t) % n) rest ∙ c.requires.filled;
-      left = ap (λ t. groups_of (length (blocks t) / n) n c.args.powers c.args.acc (blocks t)) rest;
-    }
 
 pub group-held-requires : goal.group-held-requires
 group-held-requires c =

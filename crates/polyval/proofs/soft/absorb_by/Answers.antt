@@ -1,10 +1,10 @@
 -- `polyval::soft::absorb_by` meets its contract. Assumes nothing.
-use Rattle.std.proofs.Common.{◌≡◌, ℕ, ◌+◌, ◌*◌, ◌/◌, ◌^◌, ◌<◌, ◌≤◌, length, take, drop, get_or, [], refl, sym, ap, ◌∙◌, subst, arith, ◌≢◌}
+use Rattle.std.proofs.Common.{◌≡◌, ℕ, ◌+◌, ◌*◌, ◌/◌, ◌^◌, ◌<◌, ◌≤◌, length, take, drop, get_or, [], sym, ap, ◌∙◌, subst, arith, ◌≢◌}
 use borrow.Author.Tests.{eqb-true, eqb-false}
 use Rattle.octets.specs.Numbers.{number}
 use Rattle.octets.proofs.Numbers.{bytes_from, bytes_drop}
 use Rattle.field.specs.Element.{value, element}
-use Rattle.field.proofs.Element.{Sized, value_lt, value_of, element_value}
+use Rattle.field.proofs.Element.{Sized, value_of}
 use Rattle.rfc8452.specs.Machine.{step, run}
 use Rattle.rfc8452.specs.Blocks.{blocks}
 use Rattle.rfc8452.proofs.Cut.{block_lt}
@@ -20,11 +20,6 @@ held g c = record { lo = omega arith; hi = omega arith }
 
 key : (g : Over) (c : Start g) → InWords c.args.h
 key g c = (omega arith, omega arith)
-
-pub loop-block-init : goal.loop-block-init
-loop-block-init g c =
-    let sized = held g (goal.at.loop-block-init g c).Start in
-    record { fits = value_lt c.args.acc sized; an_element = sym (element_value c.args.acc sized); left = refl }
 
 pub loop-block-preserved : goal.loop-block-preserved
 loop-block-preserved g c =
