@@ -1,10 +1,11 @@
 -- The laws of `copied`, and of the other spellings of bytes over a buffer. Assumes nothing.
-use Prim.Native.Nat.{ℕ, ◌+◌, ◌-◌, ◌≤◌, min}
-use mathlib.Core.Path.{◌≡◌, sym, ap, ◌∙◌}
-use mathlib.Core.List.{List, ◌++◌, append_assoc, append-nil}
-use native.Mathlib.Nat.{zero-add, min_comm}
+use Prim.Native.Nat.{ℕ, zero, suc, ◌+◌, ◌-◌, ◌≤◌, ◌<◌, min}
+use mathlib.Core.Path.{◌≡◌, refl, sym, ap, ◌∙◌}
+use mathlib.Core.List.{List, [], ◌∷◌, ◌++◌, append_assoc, append-nil}
+use native.Mathlib.Nat.{not-suc-le-zero, le_of_suc-le-suc, zero-add, min_comm}
 use native.Mathlib.Omega.{arith}
-use lib.ListN.{length, take, drop, length-take, length-drop, drop_of_length-le}
+use native.Mathlib.Numerals.{add-one}
+use lib.ListN.{length, get_or, set, take, drop, length-take, length-drop, drop_of_length-le}
 use lib.Seq.{take_all, length-take-le, drop-drop, paste, paste-zero}
 use Rattle.octets.specs.Places.{placed, over}
 use Rattle.octets.specs.Strings.{copied}
@@ -19,7 +20,17 @@ copied_fits src dst h = ap (λ (l : List ℕ). over l dst) (take_all (length dst
 pub copied_fills : (src dst : List ℕ) → length src ≡ length dst → copied src dst ≡ src
 copied_fills src dst h = copied_fits src dst (omega arith) ∙ ap (λ (l : List ℕ). src ++ l) (drop_of_length-le dst {i = length src} (omega arith)) ∙ append-nil src
 
--- the part of s that fits stands in front
+one_more : (s d : List ℕ) (i : ℕ) → i < length s → i < length d → set (take i s ++ drop i d) i (get_or s i 0) ≡ take (suc i) s ++ drop (suc i) d
+one_more [] d i h k = absurd (not-suc-le-zero h)
+one_more (x ∷ s) [] i h k = absurd (not-suc-le-zero k)
+one_more (x ∷ s) (y ∷ d) zero h k = refl
+one_more (x ∷ s) (y ∷ d) (suc i) h k = ap (λ (l : List ℕ). x ∷ l) (one_more s d i (le_of_suc-le-suc h) (le_of_suc-le-suc k))
+
+-- a turn of the loop that copies byte by byte, and its end: the part of s that fits stands in front
+pub copy_turn : (s d out : List ℕ) (i v : ℕ) → i < length s → i < length d → out ≡ take i s ++ drop i d → v ≡ get_or s i 0
+    → set out i v ≡ take (i + 1) s ++ drop (i + 1) d
+copy_turn s d out i v h k e ev = (λ j. set (e j) i (ev j)) ∙ one_more s d i h k ∙ ap (λ n. take n s ++ drop n d) (sym (add-one i))
+
 pub copy_reached : (n : ℕ) (s d : List ℕ) → n ≡ min (length s) (length d) → take n s ++ drop n d ≡ copied s d
 unfolding copied
 copy_reached n s d e =
