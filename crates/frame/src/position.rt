@@ -5,7 +5,7 @@ ghost use Rattle.framing.specs.Position.{within, in_range, position_of, position
 
 use framing::position::{ALT_MAX, ALT_MIN, LAT_MAX, LAT_MIN, LON_MAX, LON_MIN, Position};
 
-// The fields that sixteen bytes spell, in range or not.
+// The fields that sixteen bytes spell, in range or not. A function, since From belongs beside the type, in framing.
 pub fn from_bytes(b: [u8; 16]) -> Position
     ensures { result ≡ position_of b }
 {
@@ -31,7 +31,7 @@ pub fn to_bytes(p: Position) -> [u8; 16]
     ]
 }
 
-// Whether z lies from least to most.
+// Whether z lies from least to most: asked alike of three fields, so that a proof meets one range.
 fn is_within(least: i32, most: i32, z: i32) -> bool
     ensures { result ≡ within least most z }
 {
