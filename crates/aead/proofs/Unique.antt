@@ -2,7 +2,7 @@
 -- Assumes nothing.
 use mathlib.Core.Path.{sym, ◌∙◌}
 use Rattle.logic.specs.Promise.{Unique}
-use Rattle.aead.proofs.Answered.{one_answer}
+use Rattle.answer.proofs.Reasons.{one_answer}
 use Rattle.aead.proofs.cipher.Cipher.short_key.Kinds as short_key_kinds
 use Rattle.aead.proofs.cipher.Cipher.short_key.Reads as short_key_reads
 use Rattle.aead.proofs.cipher.Cipher.long_key.Kinds as long_key_kinds

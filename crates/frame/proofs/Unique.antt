@@ -6,7 +6,8 @@ use mathlib.Core.List.{List}
 use Rattle.logic.specs.Promise.{Unique, Fixes}
 use Rattle.std.specs.Prelude.{Result}
 use Rattle.answer.specs.declared.Reason.{Reason}
-use Rattle.framing.proofs.Told.{one_front, one_answer}
+use Rattle.answer.proofs.Reasons.{one_answer}
+use Rattle.framing.proofs.Told.{one_front}
 use Rattle.frame.proofs.kind.is_known.Kinds as is_known_kinds
 use Rattle.frame.proofs.kind.is_known.Reads as is_known_reads
 use Rattle.frame.proofs.kind.is_allowed.Kinds as is_allowed_kinds

@@ -16,8 +16,7 @@ use Rattle.framing.specs.Kinds.{TableRow, kind_number, KindFor, row_told, table,
 use Rattle.std.specs.Prelude.{Result, Ok, Err}
 use Rattle.answer.specs.declared.Reason.{Reason}
 use Rattle.answer.specs.declared.Reason.TheVariants.{NotAFrame, CutShort}
-use Rattle.answer.specs.Reasons.{answer_of}
-use Rattle.answer.proofs.Reasons.{never_done, one_reason}
+use Rattle.answer.proofs.Reasons.{one_reason}
 use Rattle.framing.specs.declared.Extent.{Extent}
 use Rattle.framing.specs.Front.{Whole, Stop, front_told}
 use Rattle.framing.proofs.Rows.{row_known, row_unknown, row_steps, none_allows}
@@ -117,13 +116,6 @@ one_front (Ok a) (Ok b) e =
 one_front (Ok a) (Err b) e = cc
 one_front (Err a) (Ok b) e = cc
 one_front (Err a) (Err b) e = ap Err (one_reason a b cc)
-
--- a call that returns nothing but its answer returns one thing for each answer
-pub one_answer : (a b : Result Unit Reason) → answer_of a ≡ answer_of b → a ≡ b
-one_answer (Ok _) (Ok _) e = refl
-one_answer (Ok _) (Err b) e = absurd (never_done b (sym e))
-one_answer (Err a) (Ok _) e = absurd (never_done a e)
-one_answer (Err a) (Err b) e = ap Err (one_reason a b e)
 
 -- a number has one kind, or none and one reason
 pub one_kind_for : (number : ℕ) (a b : Result Kind Reason) → KindFor number a → KindFor number b → a ≡ b

@@ -2,7 +2,7 @@
 -- lent output. Assumes nothing.
 use mathlib.Core.Path.{sym, ◌∙◌}
 use Rattle.logic.specs.Promise.{Unique, UniqueMemory}
-use Rattle.aead.proofs.Answered.{one_answer}
+use Rattle.answer.proofs.Reasons.{one_answer}
 use Rattle.siv.proofs.seal.Kinds as seal_kinds
 use Rattle.siv.proofs.seal.Reads as seal_reads
 use Rattle.siv.proofs.open.Kinds as open_kinds

@@ -6,7 +6,8 @@ use mathlib.Core.List.{List}
 use borrow.Author.Tests.{eq-eqb, ne_eqb}
 use lib.ListN.{length}
 use Rattle.answer.specs.Answers.{cut_short}
-use Rattle.framing.proofs.Told.{one_kind, one_answer}
+use Rattle.answer.proofs.Reasons.{one_answer}
+use Rattle.framing.proofs.Told.{one_kind}
 use Rattle.window.specs.declared.Step.{Step as CodeStep}
 use Rattle.window.specs.declared.Step.TheVariants as code
 use Rattle.framing.specs.Front.{Front, Stop, front_of}

@@ -2,7 +2,7 @@
 -- leave in the window. Assumes nothing.
 use mathlib.Core.Path.{sym, ◌∙◌}
 use Rattle.logic.specs.Promise.{Unique, UniqueMemory}
-use Rattle.framing.proofs.Told.{one_answer}
+use Rattle.answer.proofs.Reasons.{one_answer}
 use Rattle.window.proofs.Steps.{one_step}
 use Rattle.window.proofs.log_answer.Kinds as log_answer_kinds
 use Rattle.window.proofs.log_answer.Reads as log_answer_reads
