@@ -66,3 +66,9 @@ pub put_wrote : {out s out' : List ℕ} {at next : ℕ} → at + length s ≤ le
 put_wrote {out} {s} {out'} {at} {next} h p =
     let e : has_room out at s ≡ true = le-leb _ _ h in
     record { out_is = p.out_is ∙ ap (λ (b : Bool). cond b (placed out at s) out) e; next_is = p.next_is ∙ ap (λ (b : Bool). cond b (at + length s) at) e }
+
+-- and what is written is what is put
+pub wrote_put : {out s out' : List ℕ} {at next : ℕ} → at + length s ≤ length out → Wrote out at s out' next → Puts out at s out' next
+wrote_put {out} {s} {out'} {at} {next} h w =
+    let e : true ≡ has_room out at s = sym (le-leb _ _ h) in
+    record { out_is = w.out_is ∙ ap (λ (b : Bool). cond b (placed out at s) out) e; next_is = w.next_is ∙ ap (λ (b : Bool). cond b (at + length s) at) e }

@@ -19,7 +19,7 @@ pub fn xor_into(pad: &[u8], text: &mut [u8])
 pub fn copy(src: &[u8], dst: &mut [u8])
     ensures { dst.new ≡ copied src.now dst.old }
 {
-    // By place: copy_from_slice asks C for memmove, and the C library may ask for memcpy and memset alone.
+    // By place: of a length that the compiler doesn't know, copy_from_slice asks C for memmove, and the C library may ask for memcpy and memset alone.
     for i in 0..src.len().min(dst.len()) {
         dst[i] = src[i];
     }
@@ -37,14 +37,13 @@ pub fn same_tag(a: [u8; 16], b: [u8; 16]) -> bool
 }
 
 // Puts s at the place at of out and answers the place behind it. Where out has no room there, it is left
-// as it was and the answer is at.
+// as it was and the answer is at. The buffer and the place stay apart: `Puts` is promised of both.
 pub fn put(out: &mut [u8], at: usize, s: &[u8]) -> usize
     ensures { Puts out.old at s.now out.new result }
 {
     if at <= out.len() && s.len() <= out.len() - at {
-        let next = at + s.len();
-        out[at..next].copy_from_slice(s);
-        return next;
+        copy(s, &mut out[at..]);
+        return at + s.len();
     }
     at
 }
