@@ -3,10 +3,10 @@
 use mathlib.Core.Path.{sym, ◌∙◌}
 use Rattle.logic.specs.Promise.{Unique}
 use Rattle.answer.proofs.Reasons.{one_answer}
-use Rattle.aead.proofs.cipher.Cipher.short_key.Kinds as short_key_kinds
-use Rattle.aead.proofs.cipher.Cipher.short_key.Reads as short_key_reads
-use Rattle.aead.proofs.cipher.Cipher.long_key.Kinds as long_key_kinds
-use Rattle.aead.proofs.cipher.Cipher.long_key.Reads as long_key_reads
+use Rattle.aead.proofs.cipher.CipherFromArrayU816.from.Kinds as short_key_kinds
+use Rattle.aead.proofs.cipher.CipherFromArrayU816.from.Reads as short_key_reads
+use Rattle.aead.proofs.cipher.CipherFromArrayU832.from.Kinds as long_key_kinds
+use Rattle.aead.proofs.cipher.CipherFromArrayU832.from.Reads as long_key_reads
 use Rattle.aead.proofs.cipher.Cipher.under.Kinds as under_kinds
 use Rattle.aead.proofs.cipher.Cipher.under.Reads as under_reads
 use Rattle.aead.proofs.cipher.Cipher.encrypt.Kinds as encrypt_kinds

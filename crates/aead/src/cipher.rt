@@ -11,31 +11,33 @@ pub enum Cipher {
     Long(Schedule<240>),
 }
 
-impl Cipher {
-    // Under a key of 16 bytes.
-    pub fn short_key(key: [u8; 16]) -> Cipher
-        ensures { result ≡ short_cipher key }
-    {
+impl From<[u8; 16]> for Cipher {
+    ghost from_gives = { λ key cipher. cipher ≡ short_cipher key };
+
+    fn from(key: [u8; 16]) -> Cipher {
         Cipher::Short(Schedule::from(key))
     }
+}
 
-    // Under a key of 32 bytes.
-    pub fn long_key(key: [u8; 32]) -> Cipher
-        ensures { result ≡ long_cipher key }
-    {
+impl From<[u8; 32]> for Cipher {
+    ghost from_gives = { λ key cipher. cipher ≡ long_cipher key };
+
+    fn from(key: [u8; 32]) -> Cipher {
         Cipher::Long(Schedule::from(key))
     }
+}
 
+impl Cipher {
     // Under a key of 16 or 32 bytes. Any other is cut or filled with zeros to 16: callers refuse it first.
     pub fn under(key: &[u8]) -> Cipher
         ensures { result ≡ cipher_under key.now }
     {
-        if let Some(long) = key.as_array() {
-            return Cipher::long_key(*long);
+        if let Some(long) = key.as_array::<32>() {
+            return Cipher::from(*long);
         }
         let mut short = [0u8; 16];
         octets::copy(key, &mut short);
-        Cipher::short_key(short)
+        Cipher::from(short)
     }
 
     // The block under the key's schedule.

@@ -1,5 +1,6 @@
 // The key expansion, FIPS 197 section 5.2, on the schedule's bytes: word i at 4 i.
 ghost use Rattle.std.specs.Prelude.{◌≡◌, ◌+◌, ◌-◌, ◌*◌, ◌/◌, ◌≤◌, ◌<◌, length, take};
+ghost use Rattle.fips197.specs.Sbox.{sbox};
 ghost use Rattle.fips197.specs.KeyExpansion as fips;
 
 use crate::Schedule;
@@ -9,13 +10,14 @@ fn word(w: &[u8], i: usize) -> [u8; 4]
     requires { 4 * i + 4 ≤ length w.now }
     ensures { result ≡ fips.word w.now i }
 {
-    [w[4 * i], w[4 * i + 1], w[4 * i + 2], w[4 * i + 3]]
+    *w[4 * i..].first_chunk().unwrap()
 }
 
 // Two words added, byte by byte.
 fn sum(a: [u8; 4], b: [u8; 4]) -> [u8; 4]
     ensures { result ≡ fips.sum a b }
 {
+    // Four sums written out: through array::from_fn a proof has to follow the closure from call to call, and the line is no shorter for it.
     [a[0] ^ b[0], a[1] ^ b[1], a[2] ^ b[2], a[3] ^ b[3]]
 }
 
@@ -30,17 +32,18 @@ fn rcon(j: usize) -> [u8; 4]
     [x, 0, 0, 0]
 }
 
+// A byte through the S-box.
+fn sub_byte(b: u8) -> u8
+    ensures { result ≡ sbox b }
+{
+    aes_tables::sbox_table()[usize::from(b)]
+}
+
 // Each byte of a word through the S-box.
 fn sub_word(t: [u8; 4]) -> [u8; 4]
     ensures { result ≡ fips.sub_word t }
 {
-    let sbox = aes_tables::sbox_table();
-    [
-        sbox[t[0] as usize],
-        sbox[t[1] as usize],
-        sbox[t[2] as usize],
-        sbox[t[3] as usize],
-    ]
+    t.map(sub_byte)
 }
 
 // What is added to word i - nk, where t is the word before word i.
@@ -62,6 +65,7 @@ fn expand(w: &mut [u8], nk: usize)
     requires { (0 < nk) × (4 * nk ≤ length w.old) × (length w.old ≡ 4 * (length w.old / 4)) }
     ensures { w.new ≡ fips.expand nk (take (4 * nk) w.old) (length w.old / 4 - nk) }
 {
+    // By place: word i is made of the words i - 1 and i - nk of the same buffer.
     for i in nk..w.len() / 4 {
         let next = sum(word(w, i - nk), temp(word(w, i - 1), i, nk));
         octets::put(w, 4 * i, &next);

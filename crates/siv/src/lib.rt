@@ -36,8 +36,9 @@ fn put_sealed(keys: &Keys, ad: &[u8], text: &[u8], out: &mut [u8])
     octets::copy(&t, &mut out[n..]);
 }
 
-// Whether the text that a body hides has the tag that came with it. It is not lent the output.
-fn is_authentic(keys: &Keys, ad: &[u8], body: &[u8], tag: [u8; 16]) -> bool
+// Whether the text that a body hides has the tag that came with it. It is not lent the output. Tag and body stay two parameters, in the
+// order of the definitions: the contracts name each by itself.
+fn is_authentic(keys: &Keys, ad: &[u8], tag: [u8; 16], body: &[u8]) -> bool
     ensures { result ≡ same_bytes (tag_by keys.now ad.now (mask_by keys.now tag body.now)) tag }
 {
     octets::same_tag(keys.body_tag(ad, tag, body), tag)
@@ -47,15 +48,15 @@ fn is_authentic(keys: &Keys, ad: &[u8], body: &[u8], tag: [u8; 16]) -> bool
 fn put_opened(
     keys: &Keys,
     ad: &[u8],
-    body: &[u8],
     tag: [u8; 16],
+    body: &[u8],
     out: &mut [u8],
 ) -> Result<(), Reason>
     requires { length body.now ≤ length out.old }
     ensures answer { answer_of result ≡ cond (same_bytes (tag_by keys.now ad.now (mask_by keys.now tag body.now)) tag) done tag_differs }
     ensures memory { out.new ≡ written (answer_of result) (mask_by keys.now tag body.now) out.old }
 {
-    if !is_authentic(keys, ad, body, tag) {
+    if !is_authentic(keys, ad, tag, body) {
         return Err(Reason::TagDiffers);
     }
     put_masked(keys, tag, body, out);
@@ -92,5 +93,5 @@ pub fn open(
     lengths::check_open(key.len(), nonce.len(), ad.len(), sealed.len(), out.len())?;
     let keys = Keys::derive(key, *nonce.as_array().unwrap());
     let (body, tag) = sealed.split_last_chunk().unwrap();
-    put_opened(&keys, ad, body, *tag, out)
+    put_opened(&keys, ad, *tag, body, out)
 }

@@ -19,7 +19,7 @@ pub fn counter_block(tag: [u8; 16]) -> [u8; 16]
 pub(crate) fn next_counter(b: [u8; 16]) -> [u8; 16]
     ensures { result ≡ next_counter b }
 {
-    let count = u32::from_le_bytes([b[0], b[1], b[2], b[3]]).wrapping_add(1);
+    let count = u32::from_le_bytes(*b.first_chunk().unwrap()).wrapping_add(1);
     let mut next = b;
     next[..4].copy_from_slice(&count.to_le_bytes());
     next
@@ -33,7 +33,7 @@ pub fn mask(cipher: &Cipher, start: [u8; 16], text: &mut [u8])
     // By place: of what a loop over chunks_mut has written a proof knows nothing.
     for k in 0..text.len().div_ceil(16) {
         octets::xor_into(&cipher.encrypt(counter), &mut text[k * 16..]);
-        // In two steps: a call's result is not laid into an array that was lent.
+        // In two steps: the checker takes no call that lays its result over an array it was given.
         let next = next_counter(counter);
         counter = next;
     }

@@ -51,13 +51,13 @@ impl Keys {
             let high = pair(&given, nonce, 4, 5);
             return Keys {
                 hash,
-                cipher: Cipher::long_key(joined(&low, &high)),
+                cipher: Cipher::from(joined::<32>(&low, &high)),
                 nonce,
             };
         }
         Keys {
             hash,
-            cipher: Cipher::short_key(low),
+            cipher: Cipher::from(low),
             nonce,
         }
     }

@@ -80,7 +80,7 @@ impl Keys {
         let mut b = start;
         for block in body.chunks(16) {
             a = absorb_front(self.hash, a, self.cipher.encrypt(b), block);
-            // In two steps: a call's result is not laid into an array that was lent.
+            // In two steps: the checker takes no call that lays its result over an array it was given.
             let next = counter::next_counter(b);
             b = next;
         }

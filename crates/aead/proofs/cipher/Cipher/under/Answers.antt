@@ -9,8 +9,8 @@ pub returns-in-Some : goal.returns-in-Some
 unfolding cipher_under
 returns-in-Some c =
     let whole = c.in-Some.ensures.cases in
-    c.long_key.ensures ∙ ap long_cipher whole.same ∙ sym (simp (eq-eqb (length c.args.key.now) 32 whole.long))
+    c.from.ensures ∙ ap long_cipher whole.same ∙ sym (simp (eq-eqb (length c.args.key.now) 32 whole.long))
 
 pub returns : goal.returns
 unfolding cipher_under
-returns c = c.short_key.ensures ∙ ap short_cipher c.copy.ensures ∙ sym (simp (ne_eqb (length c.args.key.now) 32 c.in_default.ensures.cases))
+returns c = c.from-2.ensures ∙ ap short_cipher c.copy.ensures ∙ sym (simp (ne_eqb (length c.args.key.now) 32 c.in_default.ensures.cases))

@@ -50,13 +50,13 @@ returns-then-key-eq32 c =
     let a = c.args in
     let low = given_pair c.under-given.result a.key.now a.nonce c.pair-low.result 2 3 c.under-given.ensures c.pair-low.ensures in
     let high = given_pair c.under-given.result a.key.now a.nonce c.pair-high.result 4 5 c.under-given.ensures c.pair-high.ensures in
-    derived (goal.at.returns-then-key-eq32 c).After-pair-low c.long_key.result
-    (c.long_key.ensures ∙ ap long_cipher (c.joined.ensures ∙ ap₂ (λ (x y : List ℕ). x ++ y) low high)
+    derived (goal.at.returns-then-key-eq32 c).After-pair-low c.from.result
+    (c.from.ensures ∙ ap long_cipher (c.joined.ensures ∙ ap₂ (λ (x y : List ℕ). x ++ y) low high)
     ∙ sym (simp (eq-eqb (length a.key.now) 32 c.if-key-eq32.true)))
 
 pub returns : goal.returns
 returns c =
     let a = c.args in
     let low = given_pair c.under-given.result a.key.now a.nonce c.pair-low.result 2 3 c.under-given.ensures c.pair-low.ensures in
-    derived (goal.at.returns c).After-pair-low c.short_key.result
-    (c.short_key.ensures ∙ ap short_cipher low ∙ sym (simp (ne_eqb (length a.key.now) 32 c.if-key-eq32.false)))
+    derived (goal.at.returns c).After-pair-low c.from-2.result
+    (c.from-2.ensures ∙ ap short_cipher low ∙ sym (simp (ne_eqb (length a.key.now) 32 c.if-key-eq32.false)))
