@@ -1,5 +1,5 @@
 // Whether a kind is known, and whether it may have a sealed part of some length, by the table of kinds (document
-// 01, "Frame"). Assumes nothing.
+// 01, "Frame"). A kind comes as any u8: a narrower type would ask more of callers. Assumes nothing.
 ghost use Rattle.std.specs.Prelude.{◌≡◌, ◌<◌, Some};
 ghost use Rattle.framing.specs.Kinds.{row_told, allows, is_known, is_allowed};
 
@@ -17,6 +17,7 @@ pub(crate) fn allows(row: Row, sealed: usize) -> bool
     row.least <= n && n <= row.most && (n - row.least) % row.step == 0
 }
 
+// Whether the table has a kind of this number. front_of, which needs the row too, asks row_of; this is promised to callers.
 #[tactic(auto, using(framing::proofs::Told::told_known))]
 pub fn is_known(kind: u8) -> bool
     ensures { result ≡ is_known kind }

@@ -5,30 +5,31 @@ ghost use Rattle.framing.specs.Position.{within, in_range, position_of, position
 
 use framing::position::{ALT_MAX, ALT_MIN, LAT_MAX, LAT_MIN, LON_MAX, LON_MIN, Position};
 
-// The fields that sixteen bytes spell, in range or not. A function, since From belongs beside the type, in framing.
+// The fields that sixteen bytes spell, in range or not. This and to_bytes are public by these names (docs/DECISIONS.md), so
+// that a From beside the type would be a second way.
 pub fn from_bytes(b: [u8; 16]) -> Position
     ensures { result ≡ position_of b }
 {
+    let (words, _) = b.as_chunks();
     Position {
-        lat: i32::from_le_bytes([b[0], b[1], b[2], b[3]]),
-        lon: i32::from_le_bytes([b[4], b[5], b[6], b[7]]),
-        alt: i32::from_le_bytes([b[8], b[9], b[10], b[11]]),
-        time: u32::from_le_bytes([b[12], b[13], b[14], b[15]]),
+        lat: i32::from_le_bytes(words[0]),
+        lon: i32::from_le_bytes(words[1]),
+        alt: i32::from_le_bytes(words[2]),
+        time: u32::from_le_bytes(words[3]),
     }
 }
 
-// The sixteen bytes that spell the fields. Each is written out: std joins no arrays.
+// The sixteen bytes that spell the fields.
 pub fn to_bytes(p: Position) -> [u8; 16]
     ensures { result ≡ position_bytes p }
 {
-    let a = p.lat.to_le_bytes();
-    let o = p.lon.to_le_bytes();
-    let h = p.alt.to_le_bytes();
-    let t = p.time.to_le_bytes();
-    [
-        a[0], a[1], a[2], a[3], o[0], o[1], o[2], o[3], h[0], h[1], h[2], h[3], t[0], t[1], t[2],
-        t[3],
-    ]
+    let words = [
+        p.lat.to_le_bytes(),
+        p.lon.to_le_bytes(),
+        p.alt.to_le_bytes(),
+        p.time.to_le_bytes(),
+    ];
+    *words.as_flattened().as_array().unwrap()
 }
 
 // Whether z lies from least to most: asked alike of three fields, so that a proof meets one range.
