@@ -1,5 +1,6 @@
-// dot by 32-bit limbs (mul32.rs): nine carryless products and nine of the reversed words, then four folds.
-ghost use Rattle.std.specs.Prelude.{◌≡◌, ◌+◌, ◌*◌, ◌/◌, ◌%◌, ◌^◌, map};
+// dot by 32-bit limbs (mul32.rs): nine carryless products and nine of the reversed words, then four folds. It shares no step
+// with mul64: multiply_limbs and times_inverse alone are alike there, and a trait for both widths is longer than they are, as lib.rt says.
+ghost use Rattle.std.specs.Prelude.{◌≡◌, ◌+◌, ◌*◌, ◌/◌, ◌%◌, ◌^◌, ◌<◌, map};
 ghost use Rattle.gf2.specs.Carryless.{clmul, rev};
 ghost use Rattle.gf2.specs.Polyval.{dot, reduce, x_inv128};
 ghost use Rattle.word.specs.Words.{words_of};
@@ -8,40 +9,28 @@ ghost use Rattle.limbs.specs.Limbs32.{tail32, value_of32, product_of32, words32_
 
 use word::Words;
 
-// The low 32 bits of a word.
-fn low_half(x: u64) -> u32
-    ensures { result ≡ x % 2 ^ 32 }
-{
-    (x & 0xffff_ffff) as u32
-}
-
-// Its high 32 bits.
-fn high_half(x: u64) -> u32
-    ensures { result ≡ x / 2 ^ 32 }
-{
-    (x >> 32) as u32
-}
-
 // The four words of a pair, the low one first.
 fn cut(e: Words) -> [u32; 4]
     ensures { result ≡ quarters_of e }
 {
     [
-        low_half(e.lo),
-        high_half(e.lo),
-        low_half(e.hi),
-        high_half(e.hi),
+        (e.lo & 0xffff_ffff) as u32,
+        (e.lo >> 32) as u32,
+        (e.hi & 0xffff_ffff) as u32,
+        (e.hi >> 32) as u32,
     ]
 }
 
-// Each word with its bits in the opposite order.
-fn reversed_quarters(quarters: [u32; 4]) -> [u32; 4]
-    ensures { result ≡ map (rev 32) quarters }
+// Each word with its bits in the opposite order. `map` asks that the words fit in memory, so there is a limit to them.
+fn reversed<const N: usize>(words: [u32; N]) -> [u32; N]
+    requires { N < 8 }
+    ensures { result ≡ map (rev 32) words.entry }
 {
-    quarters.map(word::reverse32)
+    words.map(word::reverse32)
 }
 
 // The low word of each column of the product of a0 + x^32 a1 and b0 + x^32 b1. Karatsuba: one product of sums in place of the two across.
+// The four words are not paired: pairs would have to be indexed in every formula here, and be made in every call from four places of arrays.
 fn multiply_limbs32(a0: u32, a1: u32, b0: u32, b1: u32) -> [u32; 3]
     ensures { result ≡ columns_of_pairs a0 a1 b0 b1 }
 {
@@ -69,13 +58,6 @@ fn multiply_columns(a: [u32; 4], b: [u32; 4]) -> [u32; 7]
     ]
 }
 
-// Each column's word with its bits in the opposite order.
-fn reversed_columns(columns: [u32; 7]) -> [u32; 7]
-    ensures { result ≡ map (rev 32) columns }
-{
-    columns.map(word::reverse32)
-}
-
 // The words of v (x^32 + x^31 + x^30 + x^25), the low one first: x^-32 times v, less a shift of two words.
 fn times_inverse32(v: u32) -> [u32; 2]
     ensures { result ≡ words32_of (clmul tail32 v) }
@@ -90,7 +72,7 @@ fn times_inverse32(v: u32) -> [u32; 2]
 fn join(lo: u32, hi: u32) -> u64
     ensures { result ≡ hi * 2 ^ 32 + lo }
 {
-    (hi as u64) * 0x1_0000_0000 + (lo as u64)
+    u64::from(hi) << 32 | u64::from(lo)
 }
 
 // An unreduced product of 256 bits, the low word first, times x^-128. Each fold changes words that later ones read.
@@ -119,7 +101,7 @@ fn karatsuba_mul32(a: Words, b: Words) -> [u32; 8]
     let h = cut(a);
     let y = cut(b);
     let z = multiply_columns(h, y);
-    let u = reversed_columns(multiply_columns(reversed_quarters(h), reversed_quarters(y)));
+    let u = reversed(multiply_columns(reversed(h), reversed(y)));
     [
         z[0],
         (u[0] >> 1) ^ z[1],

@@ -9,6 +9,7 @@ ghost use Rattle.limbs.specs.Limbs64.{value_of, product_of, columns_of};
 use word::Words;
 
 // The low word of each column of the product of a0 + x^64 a1 and b0 + x^64 b1. Karatsuba: one product of sums in place of the two across.
+// The four words are not paired: each formula names them, and a pair would be indexed in all of them.
 fn multiply_limbs(a0: u64, a1: u64, b0: u64, b1: u64) -> [u64; 3]
     ensures { result ≡ columns_of a0 a1 b0 b1 }
 {

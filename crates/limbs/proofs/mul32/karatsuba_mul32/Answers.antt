@@ -14,9 +14,9 @@ returns c =
     let h-cut = c.cut-h.ensures in
     let y-cut = c.cut-y.ensures in
     let z = c.multiply_columns-z.ensures ∙ ap₂ columns_of h-cut y-cut in
-    let h-rev = c.reversed_quarters.ensures ∙ ap (map (rev 32)) h-cut in
-    let y-rev = c.reversed_quarters-2.ensures ∙ ap (map (rev 32)) y-cut in
-    let u = c.reversed_columns-u.ensures ∙ ap (map (rev 32)) (c.multiply_columns.ensures ∙ ap₂ columns_of h-rev y-rev) in
+    let h-rev = c.reversed.ensures ∙ ap (map (rev 32)) h-cut in
+    let y-rev = c.reversed-2.ensures ∙ ap (map (rev 32)) y-cut in
+    let u = c.reversed-u.ensures ∙ ap (map (rev 32)) (c.multiply_columns.ensures ∙ ap₂ columns_of h-rev y-rev) in
     (λ i. assembled (z i) (u i))
     ∙ product_words _ _ _ _ _ _ _ _
     (record { w0 = omega arith; w1 = omega arith; w2 = omega arith; w3 = omega arith })
