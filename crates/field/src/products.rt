@@ -6,6 +6,7 @@ ghost use Rattle.field.specs.Element.{value, element, words, element_of_words};
 use crate::field_element::FieldElement;
 use word::Words;
 
+// An element has the fields of Words, and is a type of its own all the same: it has bytes, a sum and products, which the words of limbs have not.
 impl From<FieldElement> for Words {
     ghost from_gives = { λ e w. w ≡ words e };
 
@@ -30,7 +31,7 @@ impl FieldElement {
         limbs::mul64::dot(self.into(), rhs.into()).into()
     }
 
-    // As dot answers, by 32-bit limbs.
+    // As dot answers, by 32-bit limbs: two calls, as the crate's page promises, over one body each in limbs.
     pub fn dot32(self, rhs: FieldElement) -> FieldElement
         ensures { result ≡ element (dot (value self) (value rhs)) }
     {
