@@ -11,6 +11,7 @@ pub enum Cipher {
     Long(Schedule<240>),
 }
 
+// Under a key of 16 bytes.
 impl From<[u8; 16]> for Cipher {
     ghost from_gives = { λ key cipher. cipher ≡ short_cipher key };
 
@@ -19,6 +20,7 @@ impl From<[u8; 16]> for Cipher {
     }
 }
 
+// Under a key of 32 bytes.
 impl From<[u8; 32]> for Cipher {
     ghost from_gives = { λ key cipher. cipher ≡ long_cipher key };
 

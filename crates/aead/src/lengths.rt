@@ -22,7 +22,7 @@ fn check_common(key: usize, nonce: usize, ad: usize) -> Result<(), Reason>
     Ok(())
 }
 
-// Whether a sealing with these lengths goes ahead, and if not, why.
+// Whether a sealing with these lengths goes ahead, and if not, why. Five numbers, as the definition takes them: each caller has them as five.
 pub fn check_seal(
     key: usize,
     nonce: usize,
@@ -42,7 +42,7 @@ pub fn check_seal(
     Ok(())
 }
 
-// Whether an opening with these lengths goes on to look at the tag, and if not, why.
+// Whether an opening with these lengths goes on to look at the tag, and if not, why. Five numbers, for the same reason.
 pub fn check_open(
     key: usize,
     nonce: usize,

@@ -17,6 +17,7 @@ type State = [u32; 4];
 fn load(block: &[u8; 16]) -> State
     ensures { state_of result ≡ block.now }
 {
+    // Four columns written out: as_chunks gives a slice, and through array::from_fn a proof has to follow the closure from call to call.
     let (words, _) = block.as_chunks();
     [
         u32::from_le_bytes(words[0]),
@@ -30,6 +31,7 @@ fn load(block: &[u8; 16]) -> State
 fn add_round_key(s: State, key: &[u8; 16]) -> State
     ensures { state_of result ≡ fips.add_round_key (state_of s) key.now 0 }
 {
+    // Four sums written out, as those of a word in the key expansion.
     let k = load(key);
     [s[0] ^ k[0], s[1] ^ k[1], s[2] ^ k[2], s[3] ^ k[3]]
 }
@@ -38,12 +40,7 @@ fn add_round_key(s: State, key: &[u8; 16]) -> State
 fn to_block(s: State) -> [u8; 16]
     ensures { result ≡ state_of s }
 {
-    let columns = [
-        s[0].to_le_bytes(),
-        s[1].to_le_bytes(),
-        s[2].to_le_bytes(),
-        s[3].to_le_bytes(),
-    ];
+    let columns = s.map(u32::to_le_bytes);
     *columns.as_flattened().as_array().unwrap()
 }
 
@@ -61,7 +58,8 @@ fn sub(x: u32) -> u8
     (lookup(x) / 256 % 256) as u8
 }
 
-// A column of a round but the last. ShiftRows brings its rows from the columns a, b, c and d.
+// A column of a round but the last. ShiftRows brings its rows from the columns a, b, c and d: four numbers and no state, since each call
+// turns them by one place.
 fn column(a: u32, b: u32, c: u32, d: u32) -> u32
     ensures { bytes_of 4 result ≡ fips.mix_column (sbox (column_row 0 a)) (sbox (column_row 1 b)) (sbox (column_row 2 c)) (sbox (column_row 3 d)) }
 {
