@@ -22,3 +22,4 @@ pub mod Dots
 pub mod CostCases
 pub mod Whole
 pub mod JoinCases
+pub mod Unique

@@ -1,6 +1,9 @@
 // Document 01, "Feeding and joining" and "Cost": the types that its definitions speak of. The definitions are in specs/, the
-// theorems about them in proofs/. No function: the crates polyval, hash and join have the calls.
+// theorems about them in proofs/. No call: the crates polyval, hash and join have them. What a call made stands beside its cost in
+// a type of its own, not in a generic pair: that would hide whether word products or dots are counted, and of what.
 #![tactic(auto)]
+
+ghost use Rattle.std.specs.Prelude.{◌≡◌};
 
 use field::FieldElement;
 
@@ -36,7 +39,8 @@ pub enum Route {
     Rf,
 }
 
-// The hash record. Its first `count` pending bytes wait for the next call; a record can claim any count.
+// The hash record. Its first `count` pending bytes wait for the next call. A buffer with its count beside it: callers may hand
+// in a record that claims any count, and document 01 answers for each.
 #[derive(Clone, Copy)]
 pub struct Hash {
     pub key: ExpandedKey,
@@ -64,4 +68,16 @@ pub struct Finished {
 pub struct Joined {
     pub hash: Hash,
     pub dots: u64,
+}
+
+// A join told as a feed: what it spent, in dots, stands where a feed has its word products.
+impl From<Joined> for Fed {
+    ghost from_gives = { λ joined fed. fed ≡ record { hash = joined.hash; multiplies = joined.dots } };
+
+    fn from(joined: Joined) -> Fed {
+        Fed {
+            hash: joined.hash,
+            multiplies: joined.dots,
+        }
+    }
 }

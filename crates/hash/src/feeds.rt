@@ -37,7 +37,7 @@ fn complete(h: Hash, route: Route, s: &[u8]) -> Fed
     ensures { fed_told (Ok result) ≡ pieced route h (pending_of h ++ s.now) }
 {
     let room = 16 - h.count;
-    let first = records::kept(h.pending, h.count, &s[..room]);
+    let first = records::kept(h, &s[..room]);
     let made = route::absorb(route, Grouping::Alone, h.key, records::held(h), &first);
     let end = s.len() - (s.len() - room) % 16;
     let more = route::absorb(route, Grouping::Alone, h.key, made, &s[room..end]);
@@ -52,6 +52,6 @@ pub fn feed_piece(h: Hash, route: Route, s: &[u8]) -> Result<Fed, Reason>
     if 16 - h.count <= s.len() {
         return Ok(complete(h, route, s));
     }
-    let pending = records::kept(h.pending, h.count, s);
+    let pending = records::kept(h, s);
     Ok(records::holding(h.key, records::held(h), &pending[..h.count + s.len()]))
 }

@@ -1,9 +1,9 @@
 // The record that a call starts from, and the records that calls return.
-ghost use Rattle.std.specs.Prelude.{◌≡◌, ◌++◌, ◌+◌, ◌≤◌, length, take, Ok, [], ◌∷◌, ltb};
+ghost use Rattle.std.specs.Prelude.{◌≡◌, ◌++◌, ◌+◌, ◌≤◌, length, Ok, [], ◌∷◌, ltb};
 ghost use Rattle.answer.specs.Answers.{bad_record};
 ghost use Rattle.answer.specs.First.{first, ◌⇒◌};
 ghost use Rattle.answer.specs.Reasons.{answer_of};
-ghost use Rattle.feeding.specs.Record.{filled, held_by, holding, zero_hash};
+ghost use Rattle.feeding.specs.Record.{filled, held_by, holding, pending_of, zero_hash};
 ghost use Rattle.feeding.specs.Told.{fed_told};
 
 use answer::Reason;
@@ -32,13 +32,13 @@ pub(crate) fn held(h: Hash) -> Counted
     }
 }
 
-// The first `count` bytes of a store with s behind them, and zeros past that.
-pub(crate) fn kept(store: [u8; 16], count: usize, s: &[u8]) -> [u8; 16]
-    requires { count + length s.now ≤ 16 }
-    ensures { result ≡ filled (take count store ++ s.now) }
+// The pending bytes with s behind them, and zeros past that.
+pub(crate) fn kept(h: Hash, s: &[u8]) -> [u8; 16]
+    requires { h.count + length s.now ≤ 16 }
+    ensures { result ≡ filled (pending_of h ++ s.now) }
 {
-    let front = block::pasted([0u8; 16], 0, &store[..count]);
-    block::pasted(front, count, s)
+    let front = block::pasted([0u8; 16], 0, &h.pending[..h.count]);
+    block::pasted(front, h.count, s)
 }
 
 // The record that keeps `pending` for the next call, zeros past it.

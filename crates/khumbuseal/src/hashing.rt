@@ -140,11 +140,7 @@ pub extern "C" fn khumbuseal_hash_join(
     ensures { Joins (join_of (record_of first.old) (record_of second.now) blocks) first.old result first.new dots.new }
 {
     let joined = join::join(record::decode(*first), record::decode(*second), blocks);
-    let made = joined.map(|both| Fed {
-        hash: both.hash,
-        multiplies: both.dots,
-    });
-    store(made, first, dots)
+    store(joined.map(Fed::from), first, dots)
 }
 
 // Whether every stored power and D value belongs to the stored H: 1 or 0.

@@ -10,7 +10,7 @@ use polyval::block;
 use std::array;
 
 // The bytes of the stored key: 32 for each power.
-const KEY_SIZE: usize = POWERS * 32;
+pub const KEY_SIZE: usize = POWERS * 32;
 
 // The bytes of a record: the key, 16 of the element, 16 pending, 8 of the count.
 pub const RECORD_SIZE: usize = KEY_SIZE + 40;
