@@ -1,4 +1,4 @@
--- The laws of the table of kinds. They hold of any rows; the three facts of the table itself are computed, here and nowhere
+-- The laws of the table of kinds. They hold of any rows; the facts of the table itself are computed, here and nowhere
 -- else. Assumes nothing.
 use Prim.Native.Nat.{ℕ, ◌+◌, ◌-◌, ◌≤◌, ◌<◌, ◌%◌, max}
 use mathlib.Core.Path.{◌≡◌, refl, sym, ap, ◌∙◌, subst}
@@ -6,30 +6,14 @@ use mathlib.Core.Bool.{Bool, true, false, cond, ◌&&◌}
 use mathlib.Core.List.{List, [], ◌∷◌}
 use native.Mathlib.Omega.{arith}
 use native.Mathlib.Nat.{le-max_left, le-max_right}
-use borrow.Author.Tests.{eqb-true, leb-true, ltb-true, le-leb, lt-leb}
-use lib.Dec.{eqb, leb, ltb, ltb→lt}
+use borrow.Author.Tests.{eqb-true, leb-true, le-leb, lt-leb}
+use lib.Dec.{eqb, leb, ltb→lt}
 use Rattle.std.specs.Prelude.{Option, Some, None}
 use Rattle.framing.specs.Kinds.{TableRow, position, table, find_in, row_of, holds, known, allows, is_known, is_allowed, greatest, max_frame_plaintext}
-
--- every row's lengths have a step, so that code may divide by it
-abbrev pub stepped : List TableRow → Bool
-stepped [] = true
-stepped (r ∷ rs) = ltb 0 r.step && stepped rs
 
 both : (a b : Bool) → (a && b) ≡ true → (a ≡ true) × (b ≡ true)
 both true b e = (refl, e)
 both false b e = absurd (let z : ◌≡◌ {A = ℕ} 0 1 = cc in omega arith)
-
--- so has the row that a search finds
-found_step : (x r : TableRow) (rest : Option TableRow) (b : Bool) → 0 < x.step → (rest ≡ Some r → 0 < r.step) → cond b (Some x) rest ≡ Some r → 0 < r.step
-found_step x r rest true h later e = let same : x.step ≡ r.step = cc in omega arith
-found_step x r rest false h later e = later e
-
-pub found_steps : (rows : List TableRow) (kind : ℕ) (r : TableRow) → stepped rows ≡ true → find_in rows kind ≡ Some r → 0 < r.step
-found_steps [] kind r s e = absurd (let z : ◌≡◌ {A = ℕ} 0 1 = cc in omega arith)
-found_steps (x ∷ rows) kind r s e =
-    let h = both (ltb 0 x.step) (stepped rows) s in
-    found_step x r (find_in rows kind) (eqb x.number kind) (ltb-true 0 x.step h.0) (found_steps rows kind r h.1) e
 
 -- a sealed part holds a tag, and a plaintext from the row's least to its greatest
 held_bounds : (r : TableRow) (n : ℕ) → allows (Some r) n ≡ true → (16 + r.least ≤ n) × (n ≤ 16 + r.most)
@@ -78,11 +62,6 @@ module _ (kind : ℕ) where
   pub row_unknown : row_of kind ≡ None → is_known kind ≡ false
   unfolding is_known
   row_unknown e = ap known e
-
-  -- code may divide by its step
-  pub row_steps : (r : TableRow) → row_of kind ≡ Some r → 0 < r.step
-  unfolding row_of table
-  row_steps r e = found_steps table kind r refl e
 
   module _ (n : ℕ) where
     untagged : (f : Option TableRow) → n < 16 → allows f n ≡ false

@@ -1,5 +1,5 @@
 -- What code has of kinds, rows and fronts, as the definitions tell it: what they say fixes it, and the code's table is theirs. Assumes nothing.
-use Prim.Native.Nat.{ℕ, ◌<◌}
+use Prim.Native.Nat.{ℕ}
 use mathlib.Core.Path.{◌≡◌, refl, sym, ap, ◌∙◌}
 use mathlib.Core.Bool.{Bool, true, false, cond}
 use mathlib.Core.List.{List, [], ◌∷◌, map}
@@ -19,7 +19,7 @@ use Rattle.answer.specs.declared.Reason.TheVariants.{NotAFrame, CutShort}
 use Rattle.answer.proofs.Reasons.{one_reason}
 use Rattle.framing.specs.declared.Extent.{Extent}
 use Rattle.framing.specs.Front.{Whole, Stop, front_told}
-use Rattle.framing.proofs.Rows.{row_known, row_unknown, row_steps, none_allows}
+use Rattle.framing.proofs.Rows.{row_known, row_unknown, none_allows}
 
 -- by literal: each kind's number, a row, fronts
 pub told_kinds : (kind_number Position ≡ 1) × (kind_number Text ≡ 2) × (kind_number CheckIn ≡ 3)
@@ -95,13 +95,10 @@ module _ (number : ℕ) (found : Option Row) (e : option_map row_told found ≡ 
   unfolding is_known
   told_known = told_some found ∙ ap known e
 
-  -- and what it allows, with a step that code may divide by
+  -- and what it allows
   module _ (r : Row) (f : found ≡ Some r) where
     told_row : row_of number ≡ Some (row_told r)
     told_row = sym e ∙ ap (option_map row_told) f
-
-    pub told_steps : 0 < r.step
-    told_steps = row_steps number (row_told r) told_row
 
     pub told_allows : (n : ℕ) → allows (Some (row_told r)) n ≡ is_allowed number n
     unfolding is_allowed

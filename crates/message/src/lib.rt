@@ -15,8 +15,9 @@ use answer::Reason;
 use messaging::Message;
 
 // Writes a frame of this kind, sealed, to the front of out, which needs 32 bytes more than the plaintext
-// has, and answers how many bytes it has. Nothing is written where it refuses. Whether sealing has room is
-// asked before any part of the frame is put to its place.
+// has, and answers how many bytes it has. Nothing is written where it refuses. Any number may come as the kind: a
+// narrower type would ask more of callers. The lengths are asked here and again by siv, which takes any: an output
+// without the 16 bytes of the head has no part to lend, and a wrong key or nonce is told before it.
 pub fn write(
     kind: u8,
     key: &[u8],

@@ -11,7 +11,7 @@ ghost use Rattle.messaging.specs.Message.{content_answer, message_of};
 ghost use Rattle.messaging.specs.Reading.{reading_told};
 ghost use Rattle.messaging.specs.Read.{or_refused, Reads};
 
-use crate::content::told;
+use crate::content;
 use aead::lengths;
 use answer::Reason;
 use framing::Extent;
@@ -19,7 +19,7 @@ use framing::kind::{Kind, MAX_PLAINTEXT};
 use messaging::Message;
 
 // Room for the longest plaintext of a frame, as long as the table says. Its contract says only how long it
-// is, so that no proof meets its zeros.
+// is, so that no proof meets its zeros. respond has zeros of any length of its own: a library crate stands on no program.
 fn scratch() -> [u8; MAX_PLAINTEXT]
     ensures { length result ≡ max_frame_plaintext }
 {
@@ -42,13 +42,13 @@ fn deliver(kind: Kind, text: &[u8], taken: usize, out: &mut [u8]) -> Result<Mess
     ensures answer { reading_told result ≡ or_refused (content_answer (kind_number kind) text.now) (message_of (kind_number kind) text.now taken) }
     ensures memory { out.new ≡ written (content_answer (kind_number kind) text.now) text.now out.old }
 {
-    let message = told(kind, text, taken)?;
+    content::check(kind, text)?;
     octets::copy(text, out);
-    Ok(message)
+    Ok(content::message(kind, text, taken))
 }
 
-// A whole frame is opened aside, so that a refused position finds the output as it was. Whether the output has
-// room for its plaintext is asked before it is opened.
+// A whole frame is opened aside, so that a refused position finds the output as it was. The lengths are asked here with
+// the room of the output: siv asks them again with that of the part aside, which always holds the plaintext.
 pub(crate) fn read_whole(
     key: &[u8],
     s: &[u8],

@@ -7,11 +7,12 @@ ghost use Rattle.messaging.specs.Parts.{header};
 ghost use Rattle.messaging.specs.Write.{plain_answer};
 ghost use Rattle.message.specs.SealFrame.{SealsFrame};
 
-use crate::content::told;
+use crate::content;
 use answer::Reason;
 use framing::kind::Kind;
 
-// 10, 11, and what the content is refused for: what writing asks before sealing.
+// 10, 11, and what the content is refused for: what writing asks before sealing. The three rows of the table are searched
+// for the kind and again for the length: to ask a row once found would be a second public call of frame beside is_allowed.
 pub(crate) fn check_plain(kind: u8, text: &[u8]) -> Result<(), Reason>
     ensures { answer_of result ≡ plain_answer kind text.now }
 {
@@ -19,8 +20,7 @@ pub(crate) fn check_plain(kind: u8, text: &[u8]) -> Result<(), Reason>
     if !frame::kind::is_allowed(kind, text.len() + 16) {
         return Err(Reason::LengthForKind);
     }
-    told(known, text, 0)?;
-    Ok(())
+    content::check(known, text)
 }
 
 // The first four bytes of a frame: its associated data.

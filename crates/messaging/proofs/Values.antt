@@ -13,7 +13,7 @@ use Rattle.framing.specs.Kinds.{table, is_known}
 use Rattle.framing.proofs.Rows.{each_known}
 use Rattle.messaging.specs.Reading.{Reading}
 use Rattle.messaging.specs.Reading as message
-use Rattle.messaging.specs.Message.{content_answer, message_of, values_of}
+use Rattle.messaging.specs.Message.{message_of, values_of}
 use Rattle.framing.specs.Front.{kind_of, taken_of}
 use Rattle.messaging.specs.Parts.{opened_in}
 use Rattle.messaging.specs.Read.{or_refused, read_answer, read_of}
@@ -55,9 +55,6 @@ module _ (kind : ℕ) (text : List ℕ) (taken : ℕ) where
   -- it is not refused, so that a message, or the number that refuses it, has that number
   refusal_value : (a : ℕ) → (values_of (or_refused a (message_of kind text taken))).answer ≡ a
   refusal_value a = refused_value a (message_of kind text taken) (said (λ m. (values_of m).answer ≡ 0) refl refl refl)
-
-  pub content_value : (values_of (or_refused (content_answer kind text) (message_of kind text taken))).answer ≡ content_answer kind text
-  content_value = refusal_value (content_answer kind text)
 
   -- a position is the one that its bytes spell, and a text has their length
   pub spelled : (p : Position) (n : ℕ) → is_known kind ≡ true → message_of kind text taken ≡ message.Position p n → (kind ≡ kinds.position) × (position_of text ≡ p)

@@ -51,7 +51,8 @@ pub fn next_step(held: &[u8], last: bool) -> Step
 }
 
 // Moves the bytes from..to to the front, and answers how many they are: what a reader holds, with the
-// room behind it free. Holds none and moves nothing where from..to is no part of the window.
+// room behind it free. Holds none and moves nothing where from..to is no part of the window: any two numbers may come, since
+// a type of ordered ones would ask more of callers.
 pub fn slide(window: &mut [u8], from: usize, to: usize) -> usize
     ensures { Slid window.old from to window.new result }
 {

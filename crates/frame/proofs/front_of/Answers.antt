@@ -12,7 +12,7 @@ use Rattle.octets.proofs.Endian.{from_le}
 use Rattle.framing.specs.Kinds.{kind_number, is_known, is_allowed}
 use Rattle.framing.specs.Front.{Whole, kind_of, sealed_len, front_told}
 use Rattle.framing.proofs.Fronts.{no_mark, wrong_mark, no_kind, wrong_kind, no_length, wrong_length, no_end, whole}
-use Rattle.framing.proofs.Told.{found_none, found_some, kind_found, none_found, told_steps, told_allows}
+use Rattle.framing.proofs.Told.{found_none, found_some, kind_found, none_found, told_allows}
 use Rattle.frame.proofs.front_of.Goals as goal
 use Rattle.frame.proofs.front_of.Goals.{In_ok-row, After-allows}
 
@@ -51,11 +51,6 @@ module _ (c : In_ok-row) where
 pub returns-in_default-s-2 : goal.returns-in_default-s-2
 returns-in_default-s-2 c =
     no_length _ (omega arith) (omega arith) (omega arith) (kind_is (goal.at.returns-in_default-s-2 c).In_ok-row).1 c.in_default-s-2.len_below
-
-pub allows-requires : goal.allows-requires
-allows-requires c =
-    let d = (goal.at.allows-requires c).In_ok-row in
-    told_steps _ c.row_of.result c.row_of.ensures c.in_ok-row.row (row_is d)
 
 -- the length was read, and asked of the row
 module _ (c : After-allows) where

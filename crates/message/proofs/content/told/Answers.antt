@@ -1,8 +1,0 @@
--- `message::content::told` meets its contract. Assumes nothing.
-use mathlib.Core.Path.{ap}
-use Rattle.framing.specs.Kinds.{kind_number}
-use Rattle.framing.proofs.Rows.{sixteen_bytes}
-use Rattle.message.proofs.content.told.Goals as goal
-
-pub position_in-position-requires : goal.position_in-position-requires
-position_in-position-requires c = sixteen_bytes (kind_number c.args.kind) _ (ap kind_number c.in-Position.is) c.requires
