@@ -5,7 +5,7 @@
 ghost use Rattle.std.specs.Prelude.{◌≡◌, ◌+◌, ◌*◌, ◌/◌, ◌%◌, min, length};
 ghost use Rattle.digits.specs.Text.{Put, digit, letter, is_hex, spelled, spelling, longer_by, number_of, digit_of};
 
-// The value of a hex digit. Upper case is none.
+// The value of a hex digit. Upper case is none: std's char::to_digit takes it.
 pub fn hex_digit(b: u8) -> Option<u8>
     ensures { result ≡ digit_of b }
 {
@@ -16,7 +16,8 @@ pub fn hex_digit(b: u8) -> Option<u8>
     }
 }
 
-// The hex digit of the low four bits of n.
+// The hex digit of the low four bits of n. std's char::from_digit answers an Option of a char, for a None that cannot come. The crate report
+// has its own, by its own definition: neither crate stands on the other.
 fn hex_letter(n: u8) -> u8
     ensures { result ≡ letter n }
 {
@@ -38,7 +39,8 @@ fn byte_of(high: u8, low: u8) -> u8
     hex_digit(high).unwrap_or(0) * 16 + hex_digit(low).unwrap_or(0)
 }
 
-// Puts the bytes that s spells at the front of out, as many as there is room for, and answers how many.
+// Puts the bytes that s spells at the front of out, as many as there is room for, and answers how many. They are stored by index: of
+// what is written through iter_mut, in a zip too, std's contracts tell the length and no element.
 pub fn from_hex(s: &[u8], out: &mut [u8]) -> usize
     ensures { Put result (min (length s.now / 2) (length out.old)) (spelled s.now) out.old out.new }
 {
@@ -50,7 +52,8 @@ pub fn from_hex(s: &[u8], out: &mut [u8]) -> usize
     n
 }
 
-// Puts the hex text of s at the front of out, of as many bytes as there is room for, and answers how many characters.
+// Puts the hex text of s at the front of out, of as many bytes as there is room for, and answers how many characters. By index, as in
+// from_hex.
 pub fn to_hex(s: &[u8], out: &mut [u8]) -> usize
     ensures { Put result (2 * min (length s.now) (length out.old / 2)) (spelling s.now) out.old out.new }
 {
@@ -72,7 +75,7 @@ fn longer(value: u64, b: u8) -> Option<u64>
     }
 }
 
-// The number that a word says: decimal digits and nothing else, and it fits.
+// The number that a word says: decimal digits and nothing else, and it fits. std's parse takes a `+` before them.
 pub fn decimal(s: &[u8]) -> Option<u64>
     ensures { result ≡ number_of s.now }
 {

@@ -22,7 +22,7 @@ pub const KEY_ROOM: usize = 33;
 // What a file's name may have at most, as the system has it: a longer one is no file's.
 pub const NAME_ROOM: usize = 4096;
 
-// A file, and the name that it was given by, under which what fails is told.
+// A file, and the name that it was given by, under which what fails is told. A call that has no file yet takes the name alone.
 #[derive(Drop)]
 pub struct NamedFile<'a, F> {
     pub path: &'a [u8],
@@ -83,7 +83,8 @@ fn told<T, R: Eprint>(rt: &R, path: &[u8], came: io::Result<T>) -> Option<T>
     }
 }
 
-// The descriptor of what was opened, or -1 where nothing was.
+// The descriptor of what was opened, or -1 where nothing was. A number and no Option: its promise, and the refused programs, speak
+// of -1 as the one negative answer (docs/EXCEPTIONS.md).
 pub fn descriptor(opened: &Option<NamedFile<'_, File>>) -> i32
     ensures { result ≡ descriptor_of opened.now }
 {

@@ -4,7 +4,7 @@ ghost use Rattle.reporting.specs.Lines.{AtFront};
 use answer::Reason;
 use framing::kind;
 use messaging::Message;
-use report::FrameAt;
+use report::{FrameAt, StopAt};
 
 // Room for any line.
 const LINE: usize = 4096;
@@ -53,8 +53,8 @@ pub(crate) fn put_frame<R: Print>(rt: &R, key: &[u8], held: &[u8], frame: FrameA
 }
 
 // Prints the last line.
-pub(crate) fn put_stop<R: Print>(rt: &R, end: Result<(), Reason>, offset: u64, frames: u64) {
+pub(crate) fn put_stop<R: Print>(rt: &R, end: Result<(), Reason>, at: StopAt) {
     let mut out = [0; LINE];
-    let n = report::stop_line(answer::number(&end), offset, frames, ending(end), &mut out);
+    let n = report::stop_line(answer::number(&end), at, ending(end), &mut out);
     let _ = rt.write_all(&out[..n]);
 }

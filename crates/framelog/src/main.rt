@@ -40,7 +40,8 @@ fn run<R: Files<File = File> + Print + Eprint>(rt: &R, key_path: &[u8], path: &[
     }
 }
 
-// Takes the names of both files from the words that the program was started with.
+// Takes the names of both files from the words that the program was started with. polysum's main does so too: one for both would take what
+// is done with the names as a closure, and a public function of that kind needs a `requires` for it, which no public function here has.
 fn main(rt: HostRuntime) {
     if !files::has_word(&rt, 2) || files::has_word(&rt, 3) {
         let _ = eprintln!(rt; "usage: framelog KEY LOG");

@@ -7,7 +7,7 @@ pub(crate) const WINDOW: usize = 4096;
 
 // A window of 4,096 bytes holds from..to of a log, and left more bytes are to be read; offset and frames count what was
 // reported. What was reported, what is held and what is left make up a log that is not too long, and each frame
-// that was counted has a byte at least.
+// that was counted has a byte at least. What is held is two indices and no slice: a slice would lend the window that the next read writes.
 #[derive(Clone, Copy)]
 pub(crate) struct Place {
     pub(crate) from: usize,

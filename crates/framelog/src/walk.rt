@@ -7,7 +7,7 @@ ghost use Rattle.framelog.specs.Place.{budget};
 use crate::lines::{put_frame, put_stop};
 use crate::place::{Place, WINDOW};
 use files::NamedFile;
-use report::FrameAt;
+use report::{FrameAt, StopAt};
 use std::fs::File;
 use window::Step;
 
@@ -58,7 +58,11 @@ fn turn<R: Print + Eprint>(
         }
         Step::More => refill(rt, file, window, p),
         Step::End(end) => {
-            put_stop(rt, end, p.offset as u64, p.frames);
+            let at = StopAt {
+                offset: p.offset as u64,
+                frames: p.frames,
+            };
+            put_stop(rt, end, at);
             None
         }
     }

@@ -84,7 +84,8 @@ fn put_refusal<R: Print>(rt: &R, reason: Reason) {
     let _ = println!(rt; "refused {}{meaning}", u8::from(reason));
 }
 
-// Takes the names of both files from the words that the program was started with.
+// Takes the names of both files from the words that the program was started with. framelog's main does so too: one for both would take what
+// is done with the names as a closure, and a public function of that kind needs a `requires` for it, which no public function here has.
 fn main(rt: HostRuntime) {
     if !files::has_word(&rt, 2) || files::has_word(&rt, 3) {
         let _ = eprintln!(rt; "usage: polysum KEY FILE");

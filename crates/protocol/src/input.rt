@@ -6,7 +6,8 @@ use crate::parts;
 use std::io;
 use std::io::Read;
 
-// Where reading stands between two lines: the bytes of the piece from `from` to `to` were not looked at yet.
+// Where reading stands between two lines: the bytes of the piece from `from` to `to` were not looked at yet. Two indices and no slice: a
+// slice would lend the piece that the next read writes.
 #[derive(Clone, Copy)]
 pub struct Reading {
     from: usize,
@@ -39,10 +40,7 @@ fn keep(s: &[u8], line: &mut [u8], have: Option<usize>) -> Option<usize> {
 
 // The line, where its end or that of the input was found.
 fn ended(have: Option<usize>) -> Next {
-    match have {
-        Some(n) => Next::Line(n),
-        None => Next::TooLong,
-    }
+    have.map_or(Next::TooLong, Next::Line)
 }
 
 // The next line of the input, or the error of a read that failed. A last line may lack its line end. Nothing says that the

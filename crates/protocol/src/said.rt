@@ -4,7 +4,7 @@
 // the bits of a signed one, X and Y the next one as a word of 16 and of 8 hex digits, and _ passes one over; E the first 16
 // bytes of the space, B as many as the call counted, A and P the 16 behind those and the next 16 (a record lies there as its key,
 // its element and its pending bytes); O the whole output buffer. A comma is a space, and all else is itself. Alternatives have
-// | between them.
+// | between them. Letters are bytes of the form: a `match` over a letter is all that is known of it.
 ghost use Rattle.std.specs.Prelude.{◌≡◌};
 ghost use Rattle.protocol.specs.Said.{numbers_of, in_kind, with_bytes};
 
@@ -16,7 +16,7 @@ use std::io;
 use std::io::Write;
 
 // What a call said: which alternative of its request's form it takes, how many bytes of the space it speaks of, and its
-// numbers in their order.
+// numbers in their order. The alternative is a number, since this crate knows the alternatives of a form only by their places in it.
 #[derive(Clone, Copy)]
 pub struct Said {
     pub kind: usize,
@@ -25,7 +25,8 @@ pub struct Said {
 }
 
 impl Said {
-    // Up to three numbers, in the first alternative, and no bytes but those that the form's letters count.
+    // Up to three numbers, in the first alternative, and no bytes but those that the form's letters count. Three and no array of any
+    // length: more than five have no room, and no public function has a `requires` to say so.
     pub fn numbers(a: u64, b: u64, c: u64) -> Said
         ensures { result ≡ numbers_of a b c }
     {

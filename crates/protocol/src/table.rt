@@ -38,13 +38,11 @@ fn row_behind(rest: &[u8]) -> Option<Row<'_>> {
 
 // The row of a name.
 fn row_of<'t>(table: &'t [u8], name: &[u8]) -> Option<Row<'t>> {
-    for row in table.split(|b| *b == b'\n') {
-        let (first, rest) = parts::cut(row, b' ');
-        if first == name {
-            return row_behind(rest);
-        }
-    }
-    None
+    let (_, rest) = table
+        .split(|b| *b == b'\n')
+        .map(|row| parts::cut(row, b' '))
+        .find(|(first, _)| *first == name)?;
+    row_behind(rest)
 }
 
 // The request that a line is, if it is one. A stored key has `key` bytes. The bytes of its words lie behind what waits.

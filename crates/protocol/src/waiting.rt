@@ -8,7 +8,8 @@ use std::{fmt, io};
 // As many bytes may wait as leave room for the longest answer.
 const WAITING: usize = 350000;
 
-// The first `len` bytes of the buffer wait.
+// The first `len` bytes of the buffer wait. std's Cursor over a slice is the same pair; but its write may write less and say so, and what
+// stands behind its place would be cut out by hand all the same.
 #[derive(Drop)]
 pub struct Waiting<'b> {
     buffer: &'b mut [u8],

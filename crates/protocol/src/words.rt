@@ -3,7 +3,8 @@
 //
 // The letters: e an element, 16 bytes; k a stored key; c a cipher's key; b bytes; x and y words of 16 and of 8 hex
 // digits; n a number, r one that is a room and i one that is a frame's kind; t a route. A capital asks for the same
-// before a colon, as a part of a record.
+// before a colon, as a part of a record. Letters are bytes of the table, which a request's row is read from: an enum of them would be
+// one more list of the same letters, so that a `match` over a letter stands where it is asked for something.
 ghost use Rattle.std.specs.Prelude.{◌≤◌, ◌≡◌, length};
 ghost use Rattle.protocol.specs.Words.{slot_at, span_of, block_of, spelled_high_first};
 
@@ -25,6 +26,9 @@ pub struct Words {
     pub(crate) room: Option<usize>,
 }
 
+// A word's bytes are arena[from..to], and its number is `number`: of a word that says a number there are no bytes, of one that says bytes
+// the number is 0. No enum of the two, since a span reads where any word begins and ends; and no slice of the bytes, since it would
+// lend the arena that the next word is written to.
 #[derive(Clone, Copy)]
 struct Slot {
     from: usize,
@@ -97,8 +101,8 @@ fn number_of(letter: u8, text: &[u8]) -> Option<u64> {
     digits::decimal(text).filter(|n| *n <= largest)
 }
 
-// The routes by number.
-fn route_of(text: &[u8]) -> Option<u64> {
+// The number of a route, by which respond knows it too: its type is the library's, which no part of this crate is built on.
+fn route_number(text: &[u8]) -> Option<u64> {
     match text {
         b"wide" => Some(0),
         b"narrow" => Some(1),
@@ -111,7 +115,7 @@ fn route_of(text: &[u8]) -> Option<u64> {
 fn slot_of(letter: u8, key: usize, text: &[u8], arena: &mut [u8], fill: usize) -> Option<Slot> {
     let number = match letter {
         b'n' | b'r' | b'i' => number_of(letter, text)?,
-        b't' => route_of(text)?,
+        b't' => route_number(text)?,
         _ => return bytes_slot(text, size_of(letter, key, text), arena, fill),
     };
     Some(Slot {
@@ -213,7 +217,7 @@ impl<'a> Asked<'a> {
     }
 }
 
-// The number that bytes spell, the highest first: its low 64 bits.
+// The number that bytes spell, the highest first: its low 64 bits. Any count of bytes, where std's from_be_bytes takes 8.
 fn big_endian(s: &[u8]) -> u64
     ensures { result ≡ spelled_high_first s.now }
 {

@@ -24,5 +24,5 @@ position_line_memory_unique κs a x y e f p q = p.0.out_is ∙ sym q.0.out_is
 pub stop_line_unique : Unique 2 stop_line_kinds.ps stop_line_kinds.r stop_line_reads.Post
 stop_line_unique κs a x y e f p q = p.0.length_is ∙ sym q.0.length_is
 
-pub stop_line_memory_unique : UniqueMemory 2 stop_line_kinds.ps stop_line_kinds.r stop_line_reads.Post (λ κs e. e.1.1.1.1.0.now)
+pub stop_line_memory_unique : UniqueMemory 2 stop_line_kinds.ps stop_line_kinds.r stop_line_reads.Post (λ κs e. e.1.1.1.0.now)
 stop_line_memory_unique κs a x y e f p q = p.0.out_is ∙ sym q.0.out_is

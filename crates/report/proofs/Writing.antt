@@ -26,6 +26,10 @@ adds_as {n} {w} {w'} e p = subst (λ (t : List ℕ). Adds n w t w') e p
 pub within : {j k : ℕ} {w w' : Writer} {a : List ℕ} → j ≤ k → Adds j w a w' → Adds k w a w'
 within h p = record { same = p.same; wrote = p.wrote; short = omega (arith, p.short) }
 
+-- a number comes by way of a wider type
+pub widened : {n : ℕ} {w w' : Writer} (f : ℕ → List ℕ) {y z : ℕ} → y ≡ z → Adds n w (f y) w' → Adds n w (f z) w'
+widened f e p = adds_as (ap f e) p
+
 -- a signed number comes by way of its bits
 pub by_bits : {n : ℕ} {w w' : Writer} (f : ℤ → List ℕ) {z : ℤ} → SFits w32 z → Adds n w (f (to_z w32 (of_z w32 z))) w' → Adds n w (f z) w'
 by_bits f h p = adds_as (ap f (to_z-of_z h)) p

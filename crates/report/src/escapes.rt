@@ -14,7 +14,7 @@ fn is_plain(b: u8) -> bool
 }
 
 // The character of a number below 16. std's char::from_digit answers an Option of a char, so that each call would add
-// a None that cannot come, and a cast.
+// a None that cannot come, and a cast. The crate digits has its own, by its own definition: neither crate stands on the other.
 fn hex_digit(d: u8) -> u8
     requires { d < 16 }
     ensures { result ≡ hex_digit d }

@@ -73,6 +73,6 @@ impl Writer<'_> {
         ensures { Adds 32 self.old (fixed places z) self.new }
     {
         self.sign(z);
-        self.in_places(z.unsigned_abs() as u64, places);
+        self.in_places(u64::from(z.unsigned_abs()), places);
     }
 }

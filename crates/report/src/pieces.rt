@@ -4,8 +4,8 @@ ghost use Rattle.reporting.specs.Numbers.{decimal, fixed};
 ghost use Rattle.reporting.specs.Lines.{head_of, angles_of, height_of, stop_of};
 ghost use Rattle.report.specs.Writing.{HasRoom, Adds};
 
-use crate::FrameAt;
 use crate::writer::Writer;
+use crate::{FrameAt, StopAt};
 
 impl Writer<'_> {
     // A word, and n behind it in decimal.
@@ -33,8 +33,8 @@ impl Writer<'_> {
         ensures { Adds 62 self.old (head_of frame.offset frame.kind answer) self.new }
     {
         self.decimal(frame.offset);
-        self.number(b" ", frame.kind as u64);
-        self.number(b" ", answer as u64);
+        self.number(b" ", u64::from(frame.kind));
+        self.number(b" ", u64::from(answer));
     }
 
     // Latitude and longitude in degrees.
@@ -53,18 +53,18 @@ impl Writer<'_> {
         ensures { Adds 69 self.old (height_of alt time) self.new }
     {
         self.measure(b", alt ", alt, 2);
-        self.number(b" m, time ", time as u64);
+        self.number(b" m, time ", u64::from(time));
         self.word(b" s");
     }
 
     // Why a scan stopped, where, and after how many frames.
-    pub(crate) fn stop(&mut self, reason: u8, offset: u64, frames: u64)
+    pub(crate) fn stop(&mut self, reason: u8, at: StopAt)
         requires { HasRoom self.old 80 }
-        ensures { Adds 80 self.old (stop_of reason offset frames) self.new }
+        ensures { Adds 80 self.old (stop_of reason at.offset at.frames) self.new }
     {
-        self.number(b"stop ", reason as u64);
-        self.number(b" at ", offset);
-        self.number(b", frames ", frames);
+        self.number(b"stop ", u64::from(reason));
+        self.number(b" at ", at.offset);
+        self.number(b", frames ", at.frames);
         self.word(b": ");
     }
 }

@@ -3,7 +3,8 @@
 ghost use Rattle.std.specs.Prelude.{◌≡◌, [], ◌∷◌, length};
 ghost use Rattle.report.specs.Writing.{HasRoom, Adds};
 
-// The buffer, and how many bytes of it are written.
+// The buffer, and how many bytes of it are written. std's Cursor over a slice is the same pair; but its write answers each piece with a
+// Result of a count, since it may write less, and each piece would throw that away.
 #[derive(Drop)]
 pub(crate) struct Writer<'a> {
     out: &'a mut [u8],

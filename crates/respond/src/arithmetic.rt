@@ -3,7 +3,7 @@ use field::FieldElement;
 use protocol::said::Said;
 use protocol::words::Asked;
 
-// The word of 32 bits that a number of 64 ends with.
+// The word of 32 bits that a number of 64 ends with. `as` is proved to lose nothing, so what is lost on purpose is taken away first.
 fn low_half(x: u64) -> u32 {
     (x & 0xFFFF_FFFF) as u32
 }

@@ -5,11 +5,18 @@ use protocol::said::Said;
 use protocol::words::Asked;
 
 // The alternatives of a reading's answer, in the order of its form.
+#[derive(Clone, Copy)]
 enum Alternative {
     Position,
     Text,
     CheckIn,
     Refused,
+}
+
+impl From<Alternative> for usize {
+    fn from(alternative: Alternative) -> usize {
+        alternative as usize
+    }
 }
 
 // Writing a frame: its answer and length.
@@ -21,32 +28,32 @@ fn write(asked: &Asked, room: &mut [u8]) -> Said {
 }
 
 // The bits of a signed number.
-fn bits(z: i32) -> u64 {
+fn signed_bits(z: i32) -> u64 {
     u64::from(z.cast_unsigned())
 }
 
 // What a reading answered.
-fn told(read: Result<Message, Reason>) -> Said {
+fn reading_said(read: Result<Message, Reason>) -> Said {
     match read {
         Ok(Message::Position { position, taken }) => Said {
-            kind: Alternative::Position as usize,
+            kind: Alternative::Position.into(),
             bytes: 0,
             numbers: [
-                bits(position.lat),
-                bits(position.lon),
-                bits(position.alt),
+                signed_bits(position.lat),
+                signed_bits(position.lon),
+                signed_bits(position.alt),
                 u64::from(position.time),
                 taken as u64,
             ],
         },
         Ok(Message::Text { len, taken }) => {
-            Said::numbers(len as u64, taken as u64, 0).of_kind(Alternative::Text as usize)
+            Said::numbers(len as u64, taken as u64, 0).of_kind(Alternative::Text.into())
         }
         Ok(Message::CheckIn { taken }) => {
-            Said::numbers(taken as u64, 0, 0).of_kind(Alternative::CheckIn as usize)
+            Said::numbers(taken as u64, 0, 0).of_kind(Alternative::CheckIn.into())
         }
         Err(reason) => Said::numbers(u64::from(u8::from(reason)), 0, 0).of_kind(
-            Alternative::Refused as usize,
+            Alternative::Refused.into(),
         ),
     }
 }
@@ -63,7 +70,7 @@ fn scan(log: &[u8], space: &mut [u8]) -> Said {
 pub(crate) fn answer(asked: &Asked, room: &mut [u8]) -> Said {
     match asked.call {
         b'w' => write(asked, room),
-        b'r' => told(message::read(asked.bytes(0), asked.bytes(1), room)),
+        b'r' => reading_said(message::read(asked.bytes(0), asked.bytes(1), room)),
         _ => scan(asked.bytes(0), room),
     }
 }

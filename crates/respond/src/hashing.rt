@@ -24,8 +24,8 @@ fn record_at(asked: &Asked, i: usize) -> Hash
     }
 }
 
-// The route by its number.
-fn route_of(n: u64) -> Route {
+// The route by its number, which protocol has for it: that crate is built on no part of the library, and so has no Route.
+fn route_numbered(n: u64) -> Route {
     match n {
         0 => Route::Wide,
         1 => Route::Narrow,
@@ -91,7 +91,7 @@ fn finished(finished: Result<Finished, Reason>, space: &mut [u8]) -> Said {
 
 // Requests whose first word is a route and whose second is a record.
 pub(crate) fn on_route(asked: &Asked, space: &mut [u8]) -> Said {
-    let route = route_of(asked.number(0));
+    let route = route_numbered(asked.number(0));
     let h = record_at(asked, 1);
     match asked.call {
         b'f' => finished(hash::finish(h, route), space),

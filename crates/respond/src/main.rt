@@ -71,7 +71,7 @@ fn zeros<const N: usize>() -> [u8; N]
 }
 
 // What the call says that a line asks for. Bytes that it says it puts into the space. The letters are the table's, and each arm takes
-// what its call needs: a match says that most plainly.
+// what its call needs: a match says that most plainly, here and over `call` in each module.
 fn carry_out(group: u8, asked: &Asked, space: &mut [u8]) -> Said {
     match group {
         b'w' => arithmetic::on_words(asked),
@@ -109,7 +109,7 @@ fn answer<W: Write>(
 }
 
 // Answers every line of the input; one that is too long is no request. Where a read fails, what waits is written before the error
-// is handed back.
+// is handed back. Nothing says that the input ends, so the lines are counted up to a number that no run comes to.
 fn run<R: Read, W: Write>(
     input: &mut R,
     output: &mut W,

@@ -5,7 +5,7 @@ use protocol::said::Said;
 use protocol::words::Asked;
 
 // The number of a call's answer.
-fn told<T>(returned: &Result<T, Reason>) -> Said {
+fn answer_said<T>(returned: &Result<T, Reason>) -> Said {
     Said::numbers(u64::from(answer::number(returned)), 0, 0)
 }
 
@@ -13,7 +13,7 @@ fn told<T>(returned: &Result<T, Reason>) -> Said {
 fn ghash_of(key: &[u8], blocks: &[u8], space: &mut [u8]) -> Said {
     let hashed = ghash::ghash(key, blocks);
     octets::copy(&hashed.unwrap_or([0; 16]), space);
-    told(&hashed)
+    answer_said(&hashed)
 }
 
 // One block under the cipher, which lies in the space.
@@ -37,7 +37,7 @@ pub(crate) fn seal_or_open(asked: &Asked, room: &mut [u8]) -> Said {
     let nonce = asked.bytes(1);
     let ad = asked.bytes(2);
     let text = asked.bytes(3);
-    told(&match asked.call {
+    answer_said(&match asked.call {
         b's' => siv::seal(key, nonce, ad, text, room),
         _ => siv::open(key, nonce, ad, text, room),
     })
