@@ -9,7 +9,7 @@ use lib.Dec.{eqb, leb→le}
 use lib.ListN.{length, take, drop, length-drop}
 use lib.Seq.{length-take-le}
 use Rattle.framing.specs.Kinds.{table, max_frame_plaintext, longest_frame}
-use Rattle.framing.proofs.Whole.{whole_bounds}
+use Rattle.framing.proofs.Whole.{IsWhole, whole_bounds}
 use Rattle.window.specs.Step.{Frame, More, step_of}
 use Rattle.window.proofs.InPieces.{more_has_room, last_decides, reported_whole}
 use Rattle.framelog.specs.declared.place.Place.{Place}
@@ -42,14 +42,14 @@ module _ (p : Place) (window : List ℕ) (size : length window ≡ 4096) (last :
       let short = more_has_room last (take (p.to - p.from) (drop p.from window)) (sym e) in
       omega (arith, length_held, window_holds)
 
-  -- a frame that is reported has 32 bytes at least and ends in what is held
+  -- a frame that is reported stands whole in what is held, and has 32 bytes at least
   pub frame_held : (kind taken : ℕ) → Frame kind taken ≡ step_of last (take (p.to - p.from) (drop p.from window))
-      → (32 ≤ taken) × (taken ≤ p.to - p.from)
+      → IsWhole (take (p.to - p.from) (drop p.from window)) kind taken × (32 ≤ taken) × (taken ≤ p.to - p.from)
   frame_held kind taken e =
       let w = reported_whole last (take (p.to - p.from) (drop p.from window)) kind taken e in
       let b = whole_bounds _ _ _ w in
       let i = w.inside in
-      (b.0, omega (arith, length_held))
+      (w, b.0, omega (arith, length_held))
 
 -- a byte that is left counts twice and one that is held once
 pub budgets : (p : Place) → p.from ≡ 1 → p.to ≡ 4 → p.left ≡ 5 → budget p ≡ 13

@@ -6,7 +6,7 @@ use Rattle.framelog.proofs.walk.turn.Goals as goal
 pub after_frame-requires : goal.after_frame-requires
 after_frame-requires g c =
     let held = frame_held c.args.p c.args.window.now (search rules) _ _ _ c.in-Frame.ensures in
-    (omega (arith, held.0), held.1)
+    (omega (arith, held.1), held.2)
 
 pub refill-requires : goal.refill-requires
 refill-requires g c = (some_left _ _ c.in-More.ensures, has_room_lem c.args.p c.args.window.now (search rules) _ c.in-More.ensures)
