@@ -52,6 +52,7 @@ fn temp(t: [u8; 4], i: usize, nk: usize) -> [u8; 4]
     ensures { result ≡ fips.temp nk i t }
 {
     if i % nk == 0 {
+        // RotWord written out: rotate_left turns a slice in place, and so would need a second word and a name for it.
         return sum(sub_word([t[1], t[2], t[3], t[0]]), rcon(i / nk));
     }
     if 6 < nk && i % nk == 4 {

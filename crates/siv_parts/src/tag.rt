@@ -43,8 +43,8 @@ fn tag_block(hash: FieldElement, nonce: [u8; 12]) -> [u8; 16]
     b
 }
 
-// Hashes the first block of a text, masked with pad, in one block of local memory. The hash key and what is hashed so far stay two
-// parameters: so soft::absorb takes them, and so does the definition, which runs on with another second number.
+// Hashes the first block of a text, masked with pad, in one block of local memory.
+// The hash key and what is hashed so far stay two parameters: so soft::absorb takes them, and each call has another second one.
 fn absorb_front(hash: FieldElement, acc: FieldElement, pad: [u8; 16], text: &[u8]) -> FieldElement
     ensures { result ≡ element (run (value hash) (value acc) (blocks (xor_bytes (take 16 text.now) pad))) }
 {
