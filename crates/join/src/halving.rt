@@ -16,7 +16,7 @@ pub struct Halving {
     pub dots: u64,
 }
 
-// A product, and the dots spent on it.
+// A product, and the dots spent on it: a type of its own, as feeding's are, so that dots stay dots.
 #[derive(Clone, Copy)]
 pub struct Multiplied {
     pub product: FieldElement,

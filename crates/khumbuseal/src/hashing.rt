@@ -109,10 +109,12 @@ pub extern "C" fn khumbuseal_hash_finish(
     ensures { finish_of (route_of route) (record_of cell.now) ≡ record { answer = result; tag = tag.new; multiplies = multiplies.new } }
 {
     let finished = hash::finish(record::decode(*cell), route_of(route));
+    // What a C caller sees of a refusal, on the spot: a name for zeros would say no more.
     let told = finished.unwrap_or(Finished {
         tag: [0; 16],
         multiplies: 0,
     });
+    // By a variable: tried straight, and the borrow checker does not cover a field that is an array, stored.
     let bytes = told.tag;
     *tag = bytes;
     *multiplies = told.multiplies;
