@@ -39,8 +39,8 @@ fn byte_of(high: u8, low: u8) -> u8
     hex_digit(high).unwrap_or(0) * 16 + hex_digit(low).unwrap_or(0)
 }
 
-// Puts the bytes that s spells at the front of out, as many as there is room for, and answers how many. They are stored by index: of
-// what is written through iter_mut, in a zip too, std's contracts tell the length and no element.
+// Puts the bytes that s spells at the front of out, as many as there is room for, and answers how many. They are stored by
+// index: of what a zip over iter_mut has written a proof knows nothing.
 pub fn from_hex(s: &[u8], out: &mut [u8]) -> usize
     ensures { Put result (min (length s.now / 2) (length out.old)) (spelled s.now) out.old out.new }
 {

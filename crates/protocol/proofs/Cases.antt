@@ -76,8 +76,14 @@ ninth_byte_lost = refl
 abbrev fields : Said → List ℕ
 fields s = s.kind ∷ s.bytes ∷ s.numbers
 
-pub said_numbers : fields (numbers_of 5 6 7) ≡ 0 ∷ 0 ∷ 5 ∷ 6 ∷ 7 ∷ 0 ∷ 0 ∷ []
+pub said_numbers : fields (numbers_of (5 ∷ 6 ∷ 7 ∷ [])) ≡ 0 ∷ 0 ∷ 5 ∷ 6 ∷ 7 ∷ 0 ∷ 0 ∷ []
+unfolding copied
 said_numbers = refl
+
+-- a sixth is lost
+pub said_six : fields (numbers_of (1 ∷ 2 ∷ 3 ∷ 4 ∷ 5 ∷ 6 ∷ [])) ≡ 0 ∷ 0 ∷ 1 ∷ 2 ∷ 3 ∷ 4 ∷ 5 ∷ []
+unfolding copied
+said_six = refl
 
 abbrev full : Said
 full = record { kind = 1; bytes = 2; numbers = 3 ∷ 4 ∷ 5 ∷ 6 ∷ 7 ∷ [] }

@@ -31,7 +31,7 @@ start_unique κs a x y e f p q =
     let same = p ∙ sym q in
     (λ i. record { from = (same i).from; to = (same i).to })
 
-pub numbers_unique : Unique 0 numbers_kinds.ps numbers_kinds.r numbers_reads.Post
+pub numbers_unique : Unique 1 numbers_kinds.ps numbers_kinds.r numbers_reads.Post
 numbers_unique κs a x y e f p q = p ∙ sym q
 
 pub of_kind_unique : Unique 0 of_kind_kinds.ps of_kind_kinds.r of_kind_reads.Post

@@ -1,10 +1,11 @@
 -- What a call said, as the program that makes it puts it together. Assumes nothing.
-use Rattle.std.specs.Prelude.{ℕ, [], ◌∷◌}
+use Rattle.std.specs.Prelude.{ℕ, List, replicate}
+use Rattle.octets.specs.Strings.{copied}
 use Rattle.protocol.specs.declared.said.Said.{Said}
 
--- up to three numbers, in the first alternative of the form, and no bytes
-abbrev pub numbers_of : (a b c : ℕ) → Said
-numbers_of a b c = record { kind = 0; bytes = 0; numbers = a ∷ b ∷ c ∷ 0 ∷ 0 ∷ [] }
+-- up to five numbers, zeros behind them, in the first alternative of the form, and no bytes
+abbrev pub numbers_of : List ℕ → Said
+numbers_of s = record { kind = 0; bytes = 0; numbers = copied s (replicate 5 0) }
 
 -- the same in another alternative
 abbrev pub in_kind : Said → ℕ → Said

@@ -15,25 +15,30 @@ use std::fmt::Write as _;
 use std::io;
 use std::io::Write;
 
+// How many numbers the longest answer has.
+const NUMBERS: usize = 5;
+
 // What a call said: which alternative of its request's form it takes, how many bytes of the space it speaks of, and its
 // numbers in their order. The alternative is a number, since this crate knows the alternatives of a form only by their places in it.
 #[derive(Clone, Copy)]
 pub struct Said {
     pub kind: usize,
     pub bytes: usize,
-    pub numbers: [u64; 5],
+    pub numbers: [u64; NUMBERS],
 }
 
 impl Said {
-    // Up to three numbers, in the first alternative, and no bytes but those that the form's letters count. Three and no array of any
-    // length: more than five have no room, and no public function has a `requires` to say so.
-    pub fn numbers(a: u64, b: u64, c: u64) -> Said
-        ensures { result ≡ numbers_of a b c }
+    // The first of so many numbers, zeros behind them, in the first alternative, and no bytes but those that the form's letters count.
+    pub fn numbers(s: &[u64]) -> Said
+        ensures { result ≡ numbers_of s.now }
     {
+        let count = s.len().min(NUMBERS);
+        let mut numbers = [0; NUMBERS];
+        numbers[..count].copy_from_slice(&s[..count]);
         Said {
             kind: 0,
             bytes: 0,
-            numbers: [a, b, c, 0, 0],
+            numbers,
         }
     }
 

@@ -11,7 +11,7 @@ fn low_half(x: u64) -> u32 {
 // Both words of a carryless product of 64 bits.
 fn product64(x: u64, y: u64) -> Said {
     let p = word::product64(x, y);
-    Said::numbers(p.lo, p.hi, 0)
+    Said::numbers(&[p.lo, p.hi])
 }
 
 // Requests on words.
@@ -21,9 +21,9 @@ pub(crate) fn on_words(asked: &Asked) -> Said {
     let (x32, y32) = (low_half(x), low_half(y));
     match asked.call {
         b'p' => product64(x, y),
-        b'b' => Said::numbers(u64::from(word::bmul32(x32, y32)), 0, 0),
-        b'r' => Said::numbers(word::reverse64(x), 0, 0),
-        _ => Said::numbers(u64::from(word::reverse32(x32)), 0, 0),
+        b'b' => Said::numbers(&[u64::from(word::bmul32(x32, y32))]),
+        b'r' => Said::numbers(&[word::reverse64(x)]),
+        _ => Said::numbers(&[u64::from(word::reverse32(x32))]),
     }
 }
 
@@ -51,5 +51,5 @@ pub(crate) fn on_elements(asked: &Asked, space: &mut [u8]) -> Said {
     let a = FieldElement::from_bytes(asked.block(0));
     let b = FieldElement::from_bytes(asked.block(1));
     octets::copy(&element(asked.call, a, b).to_bytes(), space);
-    Said::numbers(0, 0, 0)
+    Said::numbers(&[])
 }

@@ -24,7 +24,7 @@ fn write(asked: &Asked, room: &mut [u8]) -> Said {
     let kind = (asked.number(0) & 0xFF) as u8;
     let written = message::write(kind, asked.bytes(1), asked.bytes(2), asked.bytes(3), room);
     let answer = u64::from(answer::number(&written));
-    Said::numbers(answer, written.unwrap_or(0) as u64, 0)
+    Said::numbers(&[answer, written.unwrap_or(0) as u64])
 }
 
 // The bits of a signed number.
@@ -35,24 +35,21 @@ fn signed_bits(z: i32) -> u64 {
 // What a reading answered.
 fn reading_said(read: Result<Message, Reason>) -> Said {
     match read {
-        Ok(Message::Position { position, taken }) => Said {
-            kind: Alternative::Position.into(),
-            bytes: 0,
-            numbers: [
-                signed_bits(position.lat),
-                signed_bits(position.lon),
-                signed_bits(position.alt),
-                u64::from(position.time),
-                taken as u64,
-            ],
-        },
+        Ok(Message::Position { position, taken }) => Said::numbers(&[
+            signed_bits(position.lat),
+            signed_bits(position.lon),
+            signed_bits(position.alt),
+            u64::from(position.time),
+            taken as u64,
+        ])
+        .of_kind(Alternative::Position.into()),
         Ok(Message::Text { len, taken }) => {
-            Said::numbers(len as u64, taken as u64, 0).of_kind(Alternative::Text.into())
+            Said::numbers(&[len as u64, taken as u64]).of_kind(Alternative::Text.into())
         }
         Ok(Message::CheckIn { taken }) => {
-            Said::numbers(taken as u64, 0, 0).of_kind(Alternative::CheckIn.into())
+            Said::numbers(&[taken as u64]).of_kind(Alternative::CheckIn.into())
         }
-        Err(reason) => Said::numbers(u64::from(u8::from(reason)), 0, 0).of_kind(
+        Err(reason) => Said::numbers(&[u64::from(u8::from(reason))]).of_kind(
             Alternative::Refused.into(),
         ),
     }
@@ -63,7 +60,7 @@ fn scan(log: &[u8], space: &mut [u8]) -> Said {
     let found = frame::scan(log);
     octets::copy(found.prefix, space);
     let stop = u64::from(answer::number(&found.stop));
-    Said::numbers(found.frames, stop, 0).with_bytes(found.prefix.len())
+    Said::numbers(&[found.frames, stop]).with_bytes(found.prefix.len())
 }
 
 // Requests on frames. What is written or read goes to the room.

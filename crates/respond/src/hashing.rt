@@ -41,7 +41,7 @@ fn made(fed: Result<Fed, Reason>, space: &mut [u8]) -> Said {
         multiplies: 0,
     });
     octets::copy(&record::encode(hash), space);
-    Said::numbers(answer, hash.count as u64, multiplies).with_bytes(crate::KEY)
+    Said::numbers(&[answer, hash.count as u64, multiplies]).with_bytes(crate::KEY)
 }
 
 // The key that is expanded from h, in a record, and what was spent on it.
@@ -65,7 +65,7 @@ pub(crate) fn of_key(asked: &Asked, space: &mut [u8]) -> Said {
             space,
         ),
         b's' => made(hash::start(s), space),
-        _ => Said::numbers(u64::from(polyval::key::check(stored(s).key)), 0, 0),
+        _ => Said::numbers(&[u64::from(polyval::key::check(stored(s).key))]),
     }
 }
 
@@ -86,7 +86,7 @@ fn finished(finished: Result<Finished, Reason>, space: &mut [u8]) -> Said {
         multiplies: 0,
     });
     octets::copy(&tag, space);
-    Said::numbers(answer, multiplies, 0)
+    Said::numbers(&[answer, multiplies])
 }
 
 // Requests whose first word is a route and whose second is a record.

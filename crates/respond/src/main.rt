@@ -82,7 +82,7 @@ fn carry_out(group: u8, asked: &Asked, space: &mut [u8]) -> Said {
         b'c' => sealed::of_blocks(asked, space),
         b's' => sealed::seal_or_open(asked, space),
         b'f' => frames::answer(asked, space),
-        _ => Said::numbers(0, 0, 0),
+        _ => Said::numbers(&[]),
     }
 }
 

@@ -6,7 +6,7 @@ use protocol::words::Asked;
 
 // The number of a call's answer.
 fn answer_said<T>(returned: &Result<T, Reason>) -> Said {
-    Said::numbers(u64::from(answer::number(returned)), 0, 0)
+    Said::numbers(&[u64::from(answer::number(returned))])
 }
 
 // GHASH of whole blocks: its tag lies in the space, zeros where it refused.
@@ -19,7 +19,7 @@ fn ghash_of(key: &[u8], blocks: &[u8], space: &mut [u8]) -> Said {
 // One block under the cipher, which lies in the space.
 fn encrypt(key: &[u8], block: [u8; 16], space: &mut [u8]) -> Said {
     octets::copy(&Cipher::under(key).encrypt(block), space);
-    Said::numbers(0, 0, 0)
+    Said::numbers(&[])
 }
 
 // Requests whose words are a key and blocks.
