@@ -41,7 +41,7 @@ fn made(fed: Result<Fed, Reason>, space: &mut [u8]) -> Said {
         multiplies: 0,
     });
     octets::copy(&record::encode(hash), space);
-    Said::numbers(&[answer, hash.count as u64, multiplies]).with_bytes(crate::KEY)
+    Said::numbers(&[answer, hash.count as u64, multiplies]).with_bytes(record::KEY_SIZE)
 }
 
 // The key that is expanded from h, in a record, and what was spent on it.
@@ -101,11 +101,7 @@ pub(crate) fn on_route(asked: &Asked, space: &mut [u8]) -> Said {
 
 // The join of two records, as a feed says it.
 fn joined(first: Hash, second: Hash, n: u64) -> Result<Fed, Reason> {
-    let j = join::join(first, second, n)?;
-    Ok(Fed {
-        hash: j.hash,
-        multiplies: j.dots,
-    })
+    Ok(join::join(first, second, n)?.into())
 }
 
 // Requests whose first word is a record. What reset spends its form leaves away.

@@ -23,9 +23,6 @@ use protocol::{input, said, table};
 use std::io;
 use std::io::{Read, Write};
 
-// The bytes of a stored key: each power of H and its D value.
-const KEY: usize = 32 * feeding::POWERS;
-
 // What is read of the input at a time.
 const PIECE: usize = 65536;
 
@@ -95,7 +92,7 @@ fn answer<W: Write>(
     waiting: &mut Waiting,
 ) -> io::Result<()> {
     let text = line.get(..n).unwrap_or(&[]);
-    let Some(q) = table::understood(REQUESTS, KEY, text, waiting) else {
+    let Some(q) = table::understood(REQUESTS, record::KEY_SIZE, text, waiting) else {
         return said::answered(output, None, line, waiting);
     };
     let room = q.words.room_in(line);
