@@ -1,6 +1,6 @@
 -- What a step finds in the window: a frame that lies in what is held, or room for more. Assumes nothing.
 use Prim.Native.Nat.{ℕ, zero, suc, ◌-◌, ◌≤◌, ◌<◌}
-use mathlib.Core.Path.{◌≡◌, refl, sym, ap, ◌∙◌}
+use mathlib.Core.Path.{◌≡◌, refl, sym, ap, ap₂, ◌∙◌}
 use mathlib.Core.Bool.{Bool, true, false}
 use mathlib.Core.List.{List}
 use native.Mathlib.Omega.{arith}
@@ -9,7 +9,8 @@ use lib.Dec.{eqb, leb→le}
 use lib.ListN.{length, take, drop, length-drop}
 use lib.Seq.{length-take-le}
 use Rattle.framing.specs.Kinds.{table, max_frame_plaintext, longest_frame}
-use Rattle.framing.proofs.Whole.{IsWhole, whole_bounds}
+use Rattle.framing.specs.Front.{Whole, taken_of, front_of}
+use Rattle.framing.proofs.Whole.{IsWhole, whole_is, whole_bounds}
 use Rattle.window.specs.Step.{Frame, More, step_of}
 use Rattle.window.proofs.InPieces.{more_has_room, last_decides, reported_whole}
 use Rattle.framelog.specs.declared.place.Place.{Place}
@@ -50,6 +51,10 @@ module _ (p : Place) (window : List ℕ) (size : length window ≡ 4096) (last :
       let b = whole_bounds _ _ _ w in
       let i = w.inside in
       (w, b.0, omega (arith, length_held))
+
+-- a frame that stands whole is what stands at the front, by the kind that is told of it
+pub stands : (s : List ℕ) (kind taken told : ℕ) → told ≡ kind → IsWhole s kind taken → front_of s ≡ Whole told (taken_of s)
+stands s kind taken told e w = whole_is s kind taken w ∙ ap₂ Whole (sym e) (sym w.taken_is)
 
 -- a byte that is left counts twice and one that is held once
 pub budgets : (p : Place) → p.from ≡ 1 → p.to ≡ 4 → p.left ≡ 5 → budget p ≡ 13

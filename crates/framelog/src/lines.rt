@@ -1,5 +1,7 @@
 // What is printed of a log: a line for each frame, by what its reading answers, and the last line.
+ghost use Rattle.std.specs.Prelude.{◌≡◌};
 ghost use Rattle.reporting.specs.Lines.{AtFront};
+ghost use Rattle.framing.specs.Front.{Whole, taken_of, front_of};
 
 use answer::Reason;
 use framing::kind;
@@ -32,6 +34,7 @@ fn ending(end: Result<(), Reason>) -> &'static [u8] {
 
 // The line of the frame at the front of held: what it says, where its answer is 0.
 fn frame_line(key: &[u8], held: &[u8], frame: FrameAt, out: &mut [u8]) -> usize
+    requires { front_of held.now ≡ Whole frame.kind (taken_of held.now) }
     ensures { AtFront result out.new }
 {
     let mut plain = [0; kind::MAX_PLAINTEXT];
@@ -45,8 +48,10 @@ fn frame_line(key: &[u8], held: &[u8], frame: FrameAt, out: &mut [u8]) -> usize
     }
 }
 
-// Prints the line of the frame at the front of held.
-pub(crate) fn put_frame<R: Print>(rt: &R, key: &[u8], held: &[u8], frame: FrameAt) {
+// Prints the line of the frame at the front of held, which is whole and of the kind that the line says.
+pub(crate) fn put_frame<R: Print>(rt: &R, key: &[u8], held: &[u8], frame: FrameAt)
+    requires { front_of held.now ≡ Whole frame.kind (taken_of held.now) }
+{
     let mut out = [0; LINE];
     let n = frame_line(key, held, frame, &mut out);
     let _ = rt.write_all(&out[..n]);
