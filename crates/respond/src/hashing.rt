@@ -1,5 +1,7 @@
 // Requests on stored keys and on hash records. A call that refuses is answered with zeros beside the reason's number.
-ghost use Rattle.std.specs.Prelude.{◌≤◌};
+ghost use Rattle.std.specs.Prelude.{◌≡◌, ◌≤◌};
+ghost use Rattle.answer.specs.Reasons.{answer_of};
+ghost use Rattle.feeding.specs.Told.{fed_told, finish_told};
 
 use answer::Reason;
 use feeding::{Fed, Finished, Hash, Route};
@@ -33,13 +35,23 @@ fn route_numbered(n: u64) -> Route {
     }
 }
 
+// What was made and spent; the record of zeros and no count where the call refused.
+fn fed_or_zeros(fed: Result<Fed, Reason>) -> Fed
+    ensures { fed_told fed ≡ record { answer = answer_of fed; hash = result.hash; multiplies = result.multiplies } }
+{
+    match fed {
+        Ok(made) => made,
+        Err(_) => Fed {
+            hash: hash::zero(),
+            multiplies: 0,
+        },
+    }
+}
+
 // An answer with the record that was made, which lies in the space, and what was spent on it.
 fn made(fed: Result<Fed, Reason>, space: &mut [u8]) -> Said {
     let answer = u64::from(answer::number(&fed));
-    let Fed { hash, multiplies } = fed.unwrap_or_else(|_| Fed {
-        hash: hash::zero(),
-        multiplies: 0,
-    });
+    let Fed { hash, multiplies } = fed_or_zeros(fed);
     octets::copy(&record::encode(hash), space);
     Said::numbers(&[answer, hash.count as u64, multiplies]).with_bytes(record::KEY_SIZE)
 }
@@ -78,13 +90,23 @@ fn feed(call: u8, h: Hash, route: Route, s: &[u8]) -> Result<Fed, Reason> {
     }
 }
 
+// The tag and what was spent; a tag of zeros and no count where finish refused.
+fn finished_or_zeros(finished: Result<Finished, Reason>) -> Finished
+    ensures { finish_told finished ≡ record { answer = answer_of finished; tag = result.tag; multiplies = result.multiplies } }
+{
+    match finished {
+        Ok(made) => made,
+        Err(_) => Finished {
+            tag: [0; 16],
+            multiplies: 0,
+        },
+    }
+}
+
 // What finish says: its tag lies in the space.
 fn finished(finished: Result<Finished, Reason>, space: &mut [u8]) -> Said {
     let answer = u64::from(answer::number(&finished));
-    let Finished { tag, multiplies } = finished.unwrap_or(Finished {
-        tag: [0; 16],
-        multiplies: 0,
-    });
+    let Finished { tag, multiplies } = finished_or_zeros(finished);
     octets::copy(&tag, space);
     Said::numbers(&[answer, multiplies])
 }

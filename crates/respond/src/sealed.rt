@@ -1,4 +1,8 @@
 // Requests on GHASH, on the cipher and on sealing.
+ghost use Rattle.std.specs.Prelude.{◌≡◌};
+ghost use Rattle.answer.specs.Reasons.{answer_of};
+ghost use Rattle.ghash.specs.Calls.{hashed_told};
+
 use aead::cipher::Cipher;
 use answer::Reason;
 use protocol::said::Said;
@@ -9,10 +13,20 @@ fn answer_said<T>(returned: &Result<T, Reason>) -> Said {
     Said::numbers(&[u64::from(answer::number(returned))])
 }
 
-// GHASH of whole blocks: its tag lies in the space, zeros where it refused.
+// The tag; zeros where the call refused.
+fn tag_or_zeros(hashed: Result<[u8; 16], Reason>) -> [u8; 16]
+    ensures { hashed_told hashed ≡ record { answer = answer_of hashed; tag = result } }
+{
+    match hashed {
+        Ok(tag) => tag,
+        Err(_) => [0; 16],
+    }
+}
+
+// GHASH of whole blocks: its tag lies in the space.
 fn ghash_of(key: &[u8], blocks: &[u8], space: &mut [u8]) -> Said {
     let hashed = ghash::ghash(key, blocks);
-    octets::copy(&hashed.unwrap_or([0; 16]), space);
+    octets::copy(&tag_or_zeros(hashed), space);
     answer_said(&hashed)
 }
 
