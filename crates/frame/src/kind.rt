@@ -13,7 +13,10 @@ pub(crate) fn allows(row: Row, sealed: usize) -> bool
         return false;
     }
     let n = sealed - 16;
-    row.least <= n && n <= row.most && (n - row.least).is_multiple_of(row.step)
+    // The tests that need no division come first: a scan would spend most of its time on that.
+    row.least <= n
+        && n <= row.most
+        && (n == row.least || row.step == 1 || (n - row.least).is_multiple_of(row.step))
 }
 
 // Whether the table has a kind of this number. front_of, which needs the row too, asks row_of; this is promised to callers.

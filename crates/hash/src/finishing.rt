@@ -15,8 +15,15 @@ pub fn finish(h: Hash, route: Route) -> Result<Finished, Reason>
 {
     records::pending_at_most(15, h)?;
     let count = h.count;
-    let pending = &h.pending[..count];
-    let made = route::absorb(route, Grouping::Alone, h.key, records::held(h), pending);
+    // A copy of the sixteen bytes: a part of h, lent, would lay all of h in memory.
+    let pending = h.pending;
+    let made = route::absorb(
+        route,
+        Grouping::Alone,
+        h.key,
+        records::held(h),
+        &pending[..count],
+    );
     Ok(Finished {
         tag: made.element.to_bytes(),
         multiplies: made.multiplies,

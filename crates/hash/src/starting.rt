@@ -14,10 +14,10 @@ use polyval::{block, key};
 pub fn start(key: &[u8]) -> Result<Fed, Reason>
     ensures { fed_told result ≡ start_of key.now }
 {
+    let h = block::block_of(key);
     if key.len() != 16 {
         return Err(Reason::KeyLength);
     }
-    let h = block::block_of(key);
     let expanded = key::expand(h);
     let made = Counted {
         element: FieldElement::ZERO,
