@@ -1,6 +1,6 @@
 -- What is promised of a descriptor and of a read, and what the promises fix. Assumes nothing.
 use Prim.Native.Nat.{ℕ, ◌≤◌}
-use mathlib.Core.Path.{◌≡◌, sym, ◌∙◌}
+use mathlib.Core.Path.{◌≡◌, refl, sym, ◌∙◌}
 use mathlib.Core.Bool.{true, false}
 use mathlib.Core.List.{List}
 use lib.IntN.{ℤ, pos, negsuc}
@@ -8,7 +8,8 @@ use native.Mathlib.Omega.{arith}
 use lib.Dec.{leb→le}
 use lib.ListN.{length}
 use lib.Signed.{lt_z}
-use Rattle.files.specs.Files.{Got, IsPrefixLen, Opened, Read}
+use Rattle.std.specs.Prelude.{None}
+use Rattle.files.specs.Files.{Got, IsPrefixLen, Opened, Read, got}
 use Rattle.logic.proofs.Tests.{no}
 
 -- what is not below 0 is a descriptor
@@ -23,6 +24,10 @@ succeeded n buf c = record { within = c; none = λ e. no (cc) }
 -- of the negative numbers -1 alone is an answer
 pub below_zero : (n : ℕ) → Opened (negsuc n) → n ≡ 0
 below_zero n o = let h : n ≤ 0 = leb→le n 0 o.least.le in omega arith
+
+-- where a call answers no count, it failed and counts nothing
+pub told_none : got None ≡ record { failed = true; count = 0 }
+told_none = refl
 
 -- two reads that failed count alike
 pub failed_alike : (g h : Got) (x y : List ℕ) → Read g x → Read h y → g.failed ≡ true → h.failed ≡ true → g.count ≡ h.count
