@@ -33,24 +33,33 @@ pub window_holds : longest_frame ≤ 4096
 unfolding max_frame_plaintext table
 window_holds = leb→le longest_frame 4096 tt
 
-module _ (p : Place) (window : List ℕ) (size : length window ≡ 4096) (last : Bool) where
-  length_held : length (take (p.to - p.from) (drop p.from window)) ≡ p.to - p.from
-  length_held = length-take-le _ _ (rw length-drop (omega (arith, p.within)))
+-- from..to lies in the window
+module _ (from to : ℕ) (window : List ℕ) (within : to ≤ length window) (last : Bool) where
+  length_held : length (take (to - from) (drop from window)) ≡ to - from
+  length_held = length-take-le _ _ (rw length-drop (omega (arith, within)))
 
-  -- what is held where more is asked for is less than the longest frame, and so than the window
-  pub has_room_lem : More ≡ step_of last (take (p.to - p.from) (drop p.from window)) → p.to - p.from < 4096
-  has_room_lem e =
-      let short = more_has_room last (take (p.to - p.from) (drop p.from window)) (sym e) in
-      omega (arith, length_held, window_holds)
+  -- what is held where more is asked for is less than the longest frame, and so than a window that holds that
+  pub has_room_lem : longest_frame ≤ length window → More ≡ step_of last (take (to - from) (drop from window)) → to - from < length window
+  has_room_lem longest e =
+      let short = more_has_room last (take (to - from) (drop from window)) (sym e) in
+      omega (arith, length_held, longest)
 
   -- a frame that is reported stands whole in what is held, and has 32 bytes at least
-  pub frame_held : (kind taken : ℕ) → Frame kind taken ≡ step_of last (take (p.to - p.from) (drop p.from window))
-      → IsWhole (take (p.to - p.from) (drop p.from window)) kind taken × (32 ≤ taken) × (taken ≤ p.to - p.from)
+  pub frame_held : (kind taken : ℕ) → Frame kind taken ≡ step_of last (take (to - from) (drop from window))
+      → IsWhole (take (to - from) (drop from window)) kind taken × (32 ≤ taken) × (taken ≤ to - from)
   frame_held kind taken e =
-      let w = reported_whole last (take (p.to - p.from) (drop p.from window)) kind taken e in
+      let w = reported_whole last (take (to - from) (drop from window)) kind taken e in
       let b = whole_bounds _ _ _ w in
       let i = w.inside in
       (w, b.0, omega (arith, length_held))
+
+-- a place lies in the program's window, which holds the longest frame
+module _ (p : Place) (window : List ℕ) (size : length window ≡ 4096) where
+  pub in_window : p.to ≤ length window
+  in_window = omega (arith, p.within, size)
+
+  pub holds_longest : longest_frame ≤ length window
+  holds_longest = omega (arith, window_holds, size)
 
 -- a frame that stands whole is what stands at the front, by the kind that is told of it
 pub stands : (s : List ℕ) (kind taken told : ℕ) → told ≡ kind → IsWhole s kind taken → front_of s ≡ Whole told (taken_of s)
